@@ -1,0 +1,96 @@
+-- Document 01, "Numbers given back", for events: which events are refused, in which order, and one step as a whole. The
+-- kinds and keys of events are those of section "Log".
+use Prim.Native.Nat.{ℕ}
+use mathlib.Core.Bool.{Bool, true, false}
+use mathlib.Core.List.{List, [], _∷_, _++_}
+use mathlib.Core.Option.{Option, none, some}
+use lib.Dec.{ltb, eqb}
+use Rattle.rules.specs.Choice.{if_then_else_}
+use Rattle.rules.specs.Numbers.{largest-stamp}
+use Rattle.rules.specs.States.{is-key, well-formed}
+use Rattle.rules.specs.OneEvent.{Done, one-event}
+use Rattle.rules.specs.ZeroDelay.{signs, shown, Sending, sent}
+use Rattle.rules.specs.declared.Stamp.{Stamp}
+use Rattle.rules.specs.declared.Key.{Key}
+use Rattle.rules.specs.declared.Thumb.{Thumb}
+use Rattle.rules.specs.declared.Thumb.the-variants.{Left, Right}
+use Rattle.rules.specs.declared.Resting.{Resting}
+use Rattle.rules.specs.declared.Machine.{Machine}
+use Rattle.rules.specs.declared.Item.{Item}
+use Rattle.rules.specs.declared.Event.{Event}
+use Rattle.rules.specs.declared.Input.{Input}
+use Rattle.rules.specs.declared.Input.the-variants.{CharacterDown, CharacterUp, ThumbDown, ThumbUp, FunctionDown, Tick}
+
+-- kinds 1 and 2: a character key, below 31
+abbrev pub with-character : (Key → Input) → Key → Option Input
+with-character kind k = if is-key k then some (kind k) else none
+
+-- kinds 3 and 4: 0 is the left thumb, 1 the right one
+abbrev pub with-thumb : (Thumb → Input) → Key → Option Input
+with-thumb kind k =
+    if eqb (k .0) 0 then some (kind Left) else
+    if eqb (k .0) 1 then some (kind Right) else none
+
+-- kinds 5 and 6: the key is 0
+abbrev pub with-0 : Input → Key → Option Input
+with-0 kind k = if eqb (k .0) 0 then some kind else none
+
+-- Kinds: 1 character down, 2 character up, 3 thumb down, 4 thumb up, 5 function down, 6 tick. None where the kind or the key
+-- is not allowed.
+unfoldable pub input : ℕ → Key → Option Input
+input kind k =
+    if eqb kind 1 then with-character CharacterDown k else
+    if eqb kind 2 then with-character CharacterUp k else
+    if eqb kind 3 then with-thumb ThumbDown k else
+    if eqb kind 4 then with-thumb ThumbUp k else
+    if eqb kind 5 then with-0 FunctionDown k else
+    if eqb kind 6 then with-0 Tick k else none
+
+-- An event is refused with a number, or accepted as an input.
+pub data Verdict : Type 0 where
+  refused : ℕ → Verdict
+  accepted : Input → Verdict
+
+-- 4, stamp above the largest; then 5, stamp before the last accepted
+abbrev pub judge-stamp : Stamp → Stamp → Input → Verdict
+judge-stamp last now i =
+    if ltb largest-stamp (now .0) then refused 4 else
+    if ltb (now .0) (last .0) then refused 5 else accepted i
+
+-- 3, kind or key not allowed; then the stamp
+abbrev pub judge-input : Stamp → Stamp → Option Input → Verdict
+judge-input last now none = refused 3
+judge-input last now (some i) = judge-stamp last now i
+
+-- the order on an event: 2, state not well formed; then 3, 4, 5
+unfoldable pub judge : Machine → Event → Verdict
+judge m e = if well-formed m then judge-input (m .last) (e .stamp) (input (e .kind) (e .key)) else refused 2
+
+-- What an event gives back: the number, the items committed, what is sent, and the state.
+pub record Answer : Type 0 where
+  pub number : ℕ
+  pub items : List Item
+  pub sendings : List Sending
+  pub machine : Machine
+
+-- a refused event: nothing committed, nothing sent, the state handed back as given
+abbrev pub refusal : Machine → ℕ → Answer
+refusal m n = record { number = n; items = []; sendings = []; machine = m }
+
+-- an accepted event: what one-event commits and leaves, what zero delay sends, and the new last stamp
+abbrev pub acceptance : Machine → Stamp → Done → Answer
+acceptance m now d =
+    record {
+      number = 0;
+      items = d .items;
+      sendings = sent (shown (m .resting)) (signs (d .items) ++ shown (d .resting));
+      machine = record { settings = m .settings; resting = d .resting; last = now };
+    }
+
+abbrev pub answer : Machine → Stamp → Verdict → Answer
+answer m now (refused n) = refusal m n
+answer m now (accepted i) = acceptance m now (one-event (m .settings) now (m .resting) i)
+
+-- one step as a whole
+unfoldable pub step : Machine → Event → Answer
+step m e = answer m (e .stamp) (judge m e)

@@ -1,0 +1,103 @@
+-- Document 01, "Resting states": deadlines, the fresh state and well-formedness.
+-- In every state M is a character key pressed at m, O a thumb pressed at o, r the thumb's release.
+use Prim.Native.Nat.{ℕ, _+_, _-_, min}
+use mathlib.Core.Bool.{Bool, true, false, _&&_}
+use mathlib.Core.Option.{Option, none, some}
+use lib.Dec.{ltb, leb, eqb}
+use Rattle.rules.specs.Choice.{if_then_else_}
+use Rattle.rules.specs.Numbers.{keys, largest-stamp, in-range, A, B, FJ, FL}
+use Rattle.rules.specs.declared.Stamp.{Stamp}
+use Rattle.rules.specs.declared.Key.{Key}
+use Rattle.rules.specs.declared.Settings.{Settings}
+use Rattle.rules.specs.declared.Resting.{Resting}
+use Rattle.rules.specs.declared.Resting.the-variants.{S1, S2, S3, S4, S5, S6}
+use Rattle.rules.specs.declared.Machine.{Machine}
+use Rattle.rules.specs.declared.Opened.{Opened}
+use Rattle.rules.specs.declared.Opened.the-variants.{OutOfRange, Ready}
+
+-- the stamp of a number of milliseconds
+abbrev pub at : ℕ → Stamp
+at n = record { 0 = n }
+
+-- the lag from one stamp to another
+abbrev pub lag : Stamp → Stamp → ℕ
+lag a b = b .0 - a .0
+
+-- the stamp a lag later
+abbrev pub later : Stamp → ℕ → Stamp
+later a x = at (a .0 + x)
+
+-- the next deadline of a resting state, or none
+abbrev pub deadline : Settings → Resting → Option Stamp
+deadline s S1 = none
+deadline s (S2 M m) = some (later m (A s))
+deadline s (S3 O o) = if eqb (s .solo) 1 then some (later o (B s)) else none
+deadline s (S4 M m O o) = some (later o (FJ s (lag m o)))
+deadline s (S5 O o M m) = some (later m (FL s (min (lag o m) (B s))))
+deadline s (S6 O o M m r) = some (later r (lag m r))
+
+-- a fresh state
+abbrev pub fresh : Settings → Machine
+fresh s = record { settings = s; resting = S1; last = at 0 }
+
+-- keys below 31
+abbrev pub is-key : Key → Bool
+is-key k = ltb (k .0) keys
+
+abbrev pub keys-below : Resting → Bool
+keys-below S1 = true
+keys-below (S2 M m) = is-key M
+keys-below (S3 O o) = true
+keys-below (S4 M m O o) = is-key M
+keys-below (S5 O o M m) = is-key M
+keys-below (S6 O o M m r) = is-key M
+
+abbrev pub at-or-before : Stamp → Stamp → Bool
+at-or-before a b = leb (a .0) (b .0)
+
+-- every stamp at most the last accepted one
+abbrev pub stamps-by : Stamp → Resting → Bool
+stamps-by last S1 = true
+stamps-by last (S2 M m) = at-or-before m last
+stamps-by last (S3 O o) = at-or-before o last
+stamps-by last (S4 M m O o) = at-or-before m last && at-or-before o last
+stamps-by last (S5 O o M m) = at-or-before o last && at-or-before m last
+stamps-by last (S6 O o M m r) = at-or-before o last && at-or-before m last && at-or-before r last
+
+-- m≤o in S4, o≤m in S5, o≤m≤r in S6
+abbrev pub in-order : Resting → Bool
+in-order S1 = true
+in-order (S2 M m) = true
+in-order (S3 O o) = true
+in-order (S4 M m O o) = at-or-before m o
+in-order (S5 O o M m) = at-or-before o m
+in-order (S6 O o M m r) = at-or-before o m && at-or-before m r
+
+unfoldable pub well-formed : Machine → Bool
+well-formed x =
+    in-range (x .settings) && keys-below (x .resting) && stamps-by (x .last) (x .resting) && at-or-before (x .last) (at largest-stamp) && in-order (x .resting)
+
+-- Opening a machine: the number given back, and the machine if there is one.
+pub record Opening : Type 0 where
+  pub number : ℕ
+  pub machine : Option Machine
+
+-- number 1 and no state where the settings are out of range, else a fresh state
+unfoldable pub opening : Settings → Opening
+opening s = if in-range s then record { number = 0; machine = some (fresh s) } else record { number = 1; machine = none }
+
+-- what the cases of the answer of `Machine::open` say
+abbrev pub opened : Opened → Opening
+opened OutOfRange = record { number = 1; machine = none }
+opened (Ready m) = record { number = 0; machine = some m }
+
+-- Asking for the next deadline: the number given back, and the deadline if there is one.
+pub record Asking : Type 0 where
+  pub number : ℕ
+  pub deadline : Option Stamp
+
+-- only refusal 2 applies
+unfoldable pub asking : Machine → Asking
+asking x =
+    if well-formed x then record { number = 0; deadline = deadline (x .settings) (x .resting) }
+    else record { number = 2; deadline = none }
