@@ -5,3 +5,5 @@ pub mod States
 pub mod OneEvent
 pub mod ZeroDelay
 pub mod GivenBack
+pub mod Sequences
+pub mod Demand3

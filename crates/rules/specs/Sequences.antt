@@ -1,0 +1,114 @@
+-- Document 01, "The words of demand 3": what a sequence of events is, and what is read off it.
+use Prim.Native.Nat.{ℕ}
+use mathlib.Core.Bool.{Bool, true, false, _&&_}
+use mathlib.Core.List.{List, [], _∷_, _++_}
+use mathlib.Core.Path.{_≡_}
+use lib.Dec.{eqb}
+use Rattle.rules.specs.Choice.{if_then_else_}
+use Rattle.rules.specs.Numbers.{within}
+use Rattle.rules.specs.States.{fresh}
+use Rattle.rules.specs.ZeroDelay.{signs, Sending, backspace, sign}
+use Rattle.rules.specs.GivenBack.{Answer, step}
+use Rattle.rules.specs.declared.Stamp.{Stamp}
+use Rattle.rules.specs.declared.Key.{Key}
+use Rattle.rules.specs.declared.Settings.{Settings}
+use Rattle.rules.specs.declared.Resting.{Resting}
+use Rattle.rules.specs.declared.Resting.the-variants.{S1, S2, S3, S4, S5, S6}
+use Rattle.rules.specs.declared.Machine.{Machine}
+use Rattle.rules.specs.declared.Item.{Item}
+use Rattle.rules.specs.declared.Item.the-variants.{Character, Mark}
+use Rattle.rules.specs.declared.Event.{Event}
+
+-- The state that a sequence leaves: every event gets the state that the last one handed back.
+abbrev pub after : Machine → List Event → Machine
+after m [] = m
+after m (e ∷ es) = after (step m e .machine) es
+
+-- What f reads off each event and its answer, joined along the sequence.
+abbrev pub along : {X : Type 0} → (Event → Answer → List X) → Machine → List Event → List X
+along f m [] = []
+along f m (e ∷ es) = f e (step m e) ++ along f (step m e .machine) es
+
+-- number 0: the event was accepted
+abbrev pub is-accepted : Answer → Bool
+is-accepted r = eqb (r .number) 0
+
+-- A press: a character key and when it went down.
+pub record Press : Type 0 where
+  pub key : Key
+  pub stamp : Stamp
+
+abbrev pub press : Key → Stamp → Press
+press k m = record { key = k; stamp = m }
+
+abbrev pub keys-of : List Press → List Key
+keys-of [] = []
+keys-of (p ∷ ps) = p .key ∷ keys-of ps
+
+-- a character press is an accepted event of kind 1
+abbrev pub press-in : Event → Answer → List Press
+press-in e r = if is-accepted r && eqb (e .kind) 1 then (press (e .key) (e .stamp) ∷ []) else []
+
+-- kinds 1 to 5 are key events
+abbrev pub key-event-in : Event → Answer → List Event
+key-event-in e r = if is-accepted r && within 1 5 (e .kind) then (e ∷ []) else []
+
+abbrev pub items-in : Event → Answer → List Item
+items-in e r = r .items
+
+abbrev pub sendings-in : Event → Answer → List Sending
+sendings-in e r = r .sendings
+
+-- the keys of the committed characters, an empty face too
+abbrev pub characters : List Item → List Key
+characters [] = []
+characters (Character k f ∷ is) = k ∷ characters is
+characters (Mark O ∷ is) = characters is
+
+-- what waits is the resting state's M
+abbrev pub waiting : Resting → List Press
+waiting S1 = []
+waiting (S2 M m) = press M m ∷ []
+waiting (S3 O o) = []
+waiting (S4 M m O o) = press M m ∷ []
+waiting (S5 O o M m) = press M m ∷ []
+waiting (S6 O o M m r) = press M m ∷ []
+
+-- without its last sign
+abbrev pub without-last : List ℕ → List ℕ
+without-last [] = []
+without-last (c ∷ []) = []
+without-last (c ∷ (d ∷ l)) = c ∷ without-last (d ∷ l)
+
+-- a screen after sendings: a sign is added at its end, a backspace takes its last sign
+abbrev pub typed : List ℕ → List Sending → List ℕ
+typed l [] = l
+typed l (backspace ∷ more) = typed (without-last l) more
+typed l (sign c ∷ more) = typed (l ++ (c ∷ [])) more
+
+-- the characters and marks among sendings
+abbrev pub signs-among : List Sending → List ℕ
+signs-among [] = []
+signs-among (backspace ∷ more) = signs-among more
+signs-among (sign c ∷ more) = c ∷ signs-among more
+
+-- A sequence of events from a fresh state: the state it leaves, and its presses, key events, items, line and screen.
+module _ (s : Settings) (es : List Event) where
+  abbrev pub state : Machine
+  state = after (fresh s) es
+
+  abbrev pub presses : List Press
+  presses = along press-in (fresh s) es
+
+  abbrev pub key-events : List Event
+  key-events = along key-event-in (fresh s) es
+
+  abbrev pub items : List Item
+  items = along items-in (fresh s) es
+
+  -- the committed line: empty faces left out
+  abbrev pub line : List ℕ
+  line = signs items
+
+  abbrev pub screen : List ℕ
+  screen = typed [] (along sendings-in (fresh s) es)
