@@ -1,0 +1,13 @@
+-- What holds of both sides of a choice holds of the choice.
+use mathlib.Core.Bool.{Bool, true, false}
+use mathlib.Core.Path.{_≡_, refl}
+use Rattle.rules.specs.Choice.{if_then_else_}
+
+pub both-ways : {X : Type 0} (P : X → Type 0) (t : Bool) {a b : X} → P a → P b → P (if t then a else b)
+both-ways P true pa pb = pa
+both-ways P false pa pb = pb
+
+-- the same with the test's outcome at hand
+pub by-test : {X : Type 0} (P : X → Type 0) (t : Bool) {a b : X} → (t ≡ true → P a) → (t ≡ false → P b) → P (if t then a else b)
+by-test P true f g = f refl
+by-test P false f g = g refl

@@ -1,0 +1,9 @@
+pub mod Choices
+pub mod Steps
+pub mod Tests
+pub mod Bounds
+pub mod Kept
+pub mod Presses
+pub mod Screen
+pub mod Ticks
+pub mod Demand3
