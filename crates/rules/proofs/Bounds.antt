@@ -1,5 +1,5 @@
 -- What the longest wait bounds: every wait of a state lies within X of the second stamp's, and W is enough for both.
-use Prim.Native.Nat.{ℕ, _+_, _-_, _*_, _/_, _≤_, _<_, max, min}
+use Prim.Native.Nat.{ℕ, _+_, _-_, _≤_, _<_, min}
 use native.Mathlib.Nat.{le-div-iff-mul-le, div-mul-le-self, le-trans, mul-le-mul-right, mul-le-mul, le-max-left, le-max-right}
 use native.Mathlib.Omega.{arith}
 use mathlib.Core.Bool.{true}

@@ -2,15 +2,14 @@
 -- the stamps. x and w are bounds of the waits (Bounds.antt), n is the last accepted stamp.
 use Prim.Native.Nat.{ℕ, _+_, _≤_, _<_, min}
 use native.Mathlib.Omega.{arith}
-use mathlib.Core.Bool.{Bool, true, false}
+use mathlib.Core.Bool.{false}
 use mathlib.Core.List.{List, [], _∷_, _++_, append-assoc, append-nil}
 use mathlib.Core.Path.{_≡_, refl, sym, _∙_, ap, ap₂}
-use lib.Dec.{eqb, leb}
+use lib.Dec.{eqb}
 use borrow.Author.Tests.{leb-false}
-use Rattle.rules.specs.Choice.{if_then_else_}
 use Rattle.rules.specs.Numbers.{keys, A, B, FJ, FL}
 use Rattle.rules.specs.States.{lag, deadline}
-use Rattle.rules.specs.OneEvent.{Done, nothing, mark, same-thumb, same-key, second-character-takes-thumb, second-thumb-takes-character, short-overlap, late, act, due-by, settle, and-then, one-event}
+use Rattle.rules.specs.OneEvent.{Done, mark, same-thumb, same-key, second-character-takes-thumb, second-thumb-takes-character, short-overlap, late, act, due-by, settle, one-event}
 use Rattle.rules.specs.Sequences.{Press, press, keys-of, characters, waiting}
 use Rattle.rules.specs.declared.Stamp.{Stamp}
 use Rattle.rules.specs.declared.Key.{Key}

@@ -1,9 +1,14 @@
 pub mod Choices
-pub mod Steps
 pub mod Tests
+pub mod LayoutFacts
+pub mod Refusals
+pub mod Examples
+pub mod Steps
+pub mod StepFacts
 pub mod Bounds
 pub mod Kept
 pub mod Presses
 pub mod Screen
 pub mod Ticks
 pub mod Demand3
+pub mod Tried

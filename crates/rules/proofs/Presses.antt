@@ -1,13 +1,11 @@
 -- Along a sequence: presses are answered in order, what waits is not older than W, and the state stays well formed.
 use Prim.Native.Nat.{ℕ, _+_, _≤_, _<_}
 use native.Mathlib.Omega.{arith}
-use mathlib.Core.Bool.{Bool, true, false, _&&_}
+use mathlib.Core.Bool.{true}
 use mathlib.Core.List.{List, [], _∷_, _++_, append-assoc, append-nil, tail-eq-of-cons-eq}
 use mathlib.Core.Path.{_≡_, refl, sym, _∙_, ap, ap₂, subst}
-use lib.Dec.{eqb}
 use lib.ListN.{length}
 use borrow.Author.Tests.{lt-ltb, le-leb}
-use Rattle.rules.specs.Choice.{if_then_else_}
 use Rattle.rules.specs.Numbers.{largest-stamp, in-range}
 use Rattle.rules.specs.States.{keys-below, stamps-by, in-order, well-formed}
 use Rattle.rules.specs.GivenBack.{Answer, step}
@@ -42,18 +40,21 @@ sound-tests : (x w : ℕ) (last : Stamp) (y : Resting) → Sound x w (last .0) y
 sound-tests x w last S1 h = (refl, refl, refl)
 sound-tests x w last (S2 M m) h = (lt-ltb _ _ (h .0), le-leb _ _ (h .1), refl)
 sound-tests x w last (S3 O o) h = (refl, le-leb _ _ h, refl)
-sound-tests x w last (S4 M m O o) h =
-    (lt-ltb _ _ (h .0),
-    rw (le-leb (m .0) (last .0) (omega arith)) (le-leb (o .0) (last .0) (omega arith)),
-    le-leb _ _ (h .1))
-sound-tests x w last (S5 O o M m) h =
-    (lt-ltb _ _ (h .0),
-    rw (le-leb (o .0) (last .0) (omega arith)) (le-leb (m .0) (last .0) (omega arith)),
-    le-leb _ _ (h .1))
-sound-tests x w last (S6 O o M m r) h =
-    (lt-ltb _ _ (h .0),
-    rw (le-leb (o .0) (last .0) (omega arith), le-leb (m .0) (last .0) (omega arith)) (le-leb (r .0) (last .0) (omega arith)),
-    rw (le-leb (o .0) (m .0) (omega arith)) (le-leb (m .0) (r .0) (omega arith)))
+sound-tests x w last (S4 M m O o) h = (
+  lt-ltb _ _ (h .0),
+  rw (le-leb (m .0) (last .0) (omega arith)) (le-leb (o .0) (last .0) (omega arith)),
+  le-leb _ _ (h .1),
+)
+sound-tests x w last (S5 O o M m) h = (
+  lt-ltb _ _ (h .0),
+  rw (le-leb (o .0) (last .0) (omega arith)) (le-leb (m .0) (last .0) (omega arith)),
+  le-leb _ _ (h .1),
+)
+sound-tests x w last (S6 O o M m r) h = (
+  lt-ltb _ _ (h .0),
+  rw (le-leb (o .0) (last .0) (omega arith), le-leb (m .0) (last .0) (omega arith)) (le-leb (r .0) (last .0) (omega arith)),
+  rw (le-leb (o .0) (m .0) (omega arith)) (le-leb (m .0) (r .0) (omega arith)),
+)
 
 module _ (s : Settings) (x w : ℕ) (b : Bounds s x w) where
   -- one event
@@ -73,17 +74,17 @@ module _ (s : Settings) (x w : ℕ) (b : Bounds s x w) where
         };
       })
       (λ i a.
-        let kept =
-          one-event-keeps (m .settings) x w (subst (λ (t : Settings). Bounds t x w) (sym (h .same-settings)) b) (m .last) (e .stamp)
-          (m .resting) i (a .not-before) (h .sound) (a .parsed .key-below) in
-        record {
-          next = record { same-settings = h .same-settings; not-above = a .not-above; sound = kept .sound };
-          answered = record {
-            given = kept .given;
-            joined = ap (λ (l : List Press). waiting (m .resting) ++ l) (a .parsed .presses (e .stamp)) ∙ kept .joined;
-            answers = kept .answers;
-          };
-        })
+      let kept =
+      one-event-keeps (m .settings) x w (subst (λ (t : Settings). Bounds t x w) (sym (h .same-settings)) b) (m .last) (e .stamp)
+      (m .resting) i (a .not-before) (h .sound) (a .parsed .key-below) in
+      record {
+        next = record { same-settings = h .same-settings; not-above = a .not-above; sound = kept .sound };
+        answered = record {
+          given = kept .given;
+          joined = ap (λ (l : List Press). waiting (m .resting) ++ l) (a .parsed .presses (e .stamp)) ∙ kept .joined;
+          answers = kept .answers;
+        };
+      })
 
   -- a sequence of events
   pub record Ran (m : Machine) (es : List Event) : Type 0 where
@@ -100,15 +101,15 @@ module _ (s : Settings) (x w : ℕ) (b : Bounds s x w) where
         answered = record {
           given = one .answered .given ++ more .answered .given;
           joined =
-            sym (append-assoc (waiting (m .resting)) (press-in e (step m e)) (along press-in (step m e .machine) es))
-            ∙ ap (λ (l : List Press). l ++ along press-in (step m e .machine) es) (one .answered .joined)
-            ∙ append-assoc (one .answered .given) (waiting (step m e .machine .resting)) (along press-in (step m e .machine) es)
-            ∙ ap (λ (l : List Press). one .answered .given ++ l) (more .answered .joined)
-            ∙ sym (append-assoc (one .answered .given) (more .answered .given) (waiting (after (step m e .machine) es .resting)));
+              sym (append-assoc (waiting (m .resting)) (press-in e (step m e)) (along press-in (step m e .machine) es))
+              ∙ ap (λ (l : List Press). l ++ along press-in (step m e .machine) es) (one .answered .joined)
+              ∙ append-assoc (one .answered .given) (waiting (step m e .machine .resting)) (along press-in (step m e .machine) es)
+              ∙ ap (λ (l : List Press). one .answered .given ++ l) (more .answered .joined)
+              ∙ sym (append-assoc (one .answered .given) (more .answered .given) (waiting (after (step m e .machine) es .resting)));
           answers =
-            keys-of-append (one .answered .given) (more .answered .given)
-            ∙ ap₂ (λ (k l : List Key). k ++ l) (one .answered .answers) (more .answered .answers)
-            ∙ sym (characters-append (step m e .items) (along items-in (step m e .machine) es));
+              keys-of-append (one .answered .given) (more .answered .given)
+              ∙ ap₂ (λ (k l : List Key). k ++ l) (one .answered .answers) (more .answered .answers)
+              ∙ sym (characters-append (step m e .items) (along items-in (step m e .machine) es));
         };
       }
 

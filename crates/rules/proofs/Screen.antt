@@ -1,13 +1,11 @@
 -- The screen after what a step sends, and what a backspace can take.
-use Prim.Native.Nat.{ℕ, zero, suc, _≤_}
+use Prim.Native.Nat.{ℕ, suc, _≤_}
 use native.Mathlib.Omega.{arith}
-use mathlib.Core.Bool.{Bool, true, false}
-use mathlib.Core.List.{List, [], _∷_, _++_, append-assoc, append-nil, nil≢cons, head-eq-of-cons-eq, tail-eq-of-cons-eq}
-use mathlib.Core.Path.{_≡_, refl, sym, _∙_, ap, subst}
+use mathlib.Core.List.{List, [], _∷_, _++_, append-assoc, append-nil, nil≢cons, tail-eq-of-cons-eq}
+use mathlib.Core.Path.{_≡_, refl, sym, _∙_, ap}
 use lib.Dec.{eqb}
 use lib.ListN.{length}
 use borrow.Author.Tests.{eqb-true}
-use Rattle.rules.specs.Choice.{if_then_else_}
 use Rattle.rules.specs.OneEvent.{one-event}
 use Rattle.rules.specs.ZeroDelay.{sign-of, signs, shown, Sending, backspace, sign, send, take-back, sent}
 use Rattle.rules.specs.GivenBack.{Answer, step}
@@ -58,14 +56,14 @@ typed-sent l (c ∷ p) [] = typed-take-back l (c ∷ p) (c ∷ p) refl ∙ sym (
 typed-sent l (c ∷ p) (d ∷ q) =
     by-test (λ (a : List Sending). typed (l ++ (c ∷ p)) a ≡ l ++ (d ∷ q)) (eqb c d)
     (λ same.
-      ap (λ (k : List ℕ). typed k (sent p q)) (sym (append-assoc l (c ∷ []) p))
-      ∙ typed-sent (l ++ (c ∷ [])) p q
-      ∙ append-assoc l (c ∷ []) q
-      ∙ ap (λ (k : ℕ). l ++ (k ∷ q)) (eqb-true c d same))
+    ap (λ (k : List ℕ). typed k (sent p q)) (sym (append-assoc l (c ∷ []) p))
+    ∙ typed-sent (l ++ (c ∷ [])) p q
+    ∙ append-assoc l (c ∷ []) q
+    ∙ ap (λ (k : ℕ). l ++ (k ∷ q)) (eqb-true c d same))
     (λ _.
-      typed-append (l ++ (c ∷ p)) (take-back (c ∷ p)) (send (d ∷ q))
-      ∙ ap (λ (k : List ℕ). typed k (send (d ∷ q))) (typed-take-back l (c ∷ p) (c ∷ p) refl)
-      ∙ typed-send l (d ∷ q))
+    typed-append (l ++ (c ∷ p)) (take-back (c ∷ p)) (send (d ∷ q))
+    ∙ ap (λ (k : List ℕ). typed k (send (d ∷ q))) (typed-take-back l (c ∷ p) (c ∷ p) refl)
+    ∙ typed-send l (d ∷ q))
 
 signs-append : (a b : List Item) → signs (a ++ b) ≡ signs a ++ signs b
 signs-append [] b = refl
@@ -82,9 +80,9 @@ step-shows l m e =
     step-cases (Shows l m) m e
     (λ n _. ap (λ (k : List ℕ). k ++ shown (m .resting)) (sym (append-nil l)))
     (λ i _.
-      let d = one-event (m .settings) (e .stamp) (m .resting) i in
-      typed-sent l (shown (m .resting)) (signs (d .items) ++ shown (d .resting))
-      ∙ sym (append-assoc l (signs (d .items)) (shown (d .resting))))
+    let d = one-event (m .settings) (e .stamp) (m .resting) i in
+    typed-sent l (shown (m .resting)) (signs (d .items) ++ shown (d .resting))
+    ∙ sym (append-assoc l (signs (d .items)) (shown (d .resting))))
 
 pub run-shows : (l : List ℕ) (m : Machine) (es : List Event)
     → typed (l ++ shown (m .resting)) (along sendings-in m es) ≡ (l ++ signs (along items-in m es)) ++ shown (after m es .resting)
@@ -97,7 +95,7 @@ run-shows l m (e ∷ es) =
     ∙ ap (λ (k : List ℕ). typed k (along sendings-in n es)) (step-shows l m e)
     ∙ run-shows (l ++ new) n es
     ∙ ap (λ (k : List ℕ). k ++ shown (after n es .resting))
-      (append-assoc l new more ∙ ap (λ (k : List ℕ). l ++ k) (sym (signs-append (step m e .items) (along items-in n es))))
+    (append-assoc l new more ∙ ap (λ (k : List ℕ). l ++ k) (sym (signs-append (step m e .items) (along items-in n es))))
 
 -- Sentence 5.
 
@@ -138,17 +136,17 @@ sent-harmless l (c ∷ p) [] before behind e =
 sent-harmless l (c ∷ p) (d ∷ q) before behind e =
     by-test (λ (a : List Sending). a ≡ before ++ (backspace ∷ behind) → Harmless l (c ∷ p) before) (eqb c d)
     (λ _ f.
-      let more = sent-harmless (l ++ (c ∷ [])) p q before behind f in
-      record {
-        line-stays = record {
-          rest = c ∷ more .line-stays .rest;
-          joined =
+    let more = sent-harmless (l ++ (c ∷ [])) p q before behind f in
+    record {
+      line-stays = record {
+        rest = c ∷ more .line-stays .rest;
+        joined =
             ap (λ (k : List ℕ). typed k (before ++ (backspace ∷ []))) (sym (append-assoc l (c ∷ []) p))
             ∙ more .line-stays .joined
             ∙ append-assoc l (c ∷ []) (more .line-stays .rest);
-        };
-        no-sign-before = more .no-sign-before;
-      })
+      };
+      no-sign-before = more .no-sign-before;
+    })
     (λ _ f. taken-back l (c ∷ p) (c ∷ p) (d ∷ q) before behind (omega arith) f)
     e
 

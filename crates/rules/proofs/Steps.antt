@@ -10,7 +10,7 @@ use Rattle.rules.specs.Choice.{if_then_else_}
 use Rattle.rules.specs.Numbers.{keys, largest-stamp, within}
 use Rattle.rules.specs.States.{is-key, well-formed}
 use Rattle.rules.specs.OneEvent.{one-event}
-use Rattle.rules.specs.GivenBack.{with-character, with-thumb, with-0, input, judge, judge-stamp, judge-input, Answer, refusal, acceptance, answer, step}
+use Rattle.rules.specs.GivenBack.{with-character, with-thumb, with-0, input, judge, judge-input, Answer, refusal, acceptance, answer, step}
 use Rattle.rules.specs.Sequences.{Press, press}
 use Rattle.rules.specs.declared.Stamp.{Stamp}
 use Rattle.rules.specs.declared.Key.{Key}

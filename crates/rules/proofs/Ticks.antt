@@ -1,21 +1,20 @@
 -- Ticks do not matter: a sequence closed by a tick does what its key events do by themselves.
 use Prim.Native.Nat.{ℕ, _≤_}
 use native.Mathlib.Nat.{le-trans}
-use mathlib.Core.Bool.{Bool, true, false, _&&_, true≢false, false≢true}
+use mathlib.Core.Bool.{Bool, true, false, true≢false}
 use mathlib.Core.List.{List, [], _∷_, _++_, append-assoc, append-nil}
 use mathlib.Core.Option.{Option, none, some}
-use mathlib.Core.Path.{_≡_, refl, sym, _∙_, ap, subst}
-use lib.Dec.{eqb, leb}
+use mathlib.Core.Path.{_≡_, refl, sym, _∙_, ap}
+use lib.Dec.{eqb}
 use borrow.Author.Tests.{leb-true, le-leb, eq-eqb}
 use Rattle.rules.specs.Choice.{if_then_else_}
 use Rattle.rules.specs.Numbers.{within}
-use Rattle.rules.specs.States.{at-or-before, deadline}
-use Rattle.rules.specs.OneEvent.{Done, _then_, nothing, late, act, due-by, settle, and-then, one-event}
+use Rattle.rules.specs.States.{deadline}
+use Rattle.rules.specs.OneEvent.{Done, _leaving_, nothing, late, act, due-by, settle, and-then, one-event}
 use Rattle.rules.specs.GivenBack.{input, Answer, step}
 use Rattle.rules.specs.Sequences.{after, along, items-in, key-event-in}
-use Rattle.rules.specs.Demand3.{tick, closed-by}
+use Rattle.rules.specs.Demand3.{tick, with-event}
 use Rattle.rules.specs.declared.Stamp.{Stamp}
-use Rattle.rules.specs.declared.Key.{Key}
 use Rattle.rules.specs.declared.Settings.{Settings}
 use Rattle.rules.specs.declared.Resting.{Resting}
 use Rattle.rules.specs.declared.Resting.the-variants.{S1, S2, S3, S4, S5, S6}
@@ -29,20 +28,17 @@ use Rattle.rules.proofs.Steps.{is-key-input, Accepted, step-cases}
 
 -- items in front of what is done
 abbrev pub after-items : List Item → Done → Done
-after-items l d = (l ++ d .items) then (d .resting)
-
-after-none : (d : Done) → after-items [] d ≡ d
-after-none d = refl
+after-items l d = (l ++ d .items) leaving (d .resting)
 
 and-then-assoc : (d : Done) (f g : Resting → Done) → and-then (and-then d f) g ≡ and-then d (λ y. and-then (f y) g)
 and-then-assoc d f g =
     let e = f (d .resting) in
-    ap (λ (l : List Item). l then (g (e .resting) .resting)) (append-assoc (d .items) (e .items) (g (e .resting) .items))
+    ap (λ (l : List Item). l leaving (g (e .resting) .resting)) (append-assoc (d .items) (e .items) (g (e .resting) .items))
 
 -- Settling.
 
 -- a late line leaves a state that is never due
-late-is-settled : (s : Settings) (now : Stamp) (y : Resting) → settle s now (late s y .resting) ≡ (nothing then (late s y .resting))
+late-is-settled : (s : Settings) (now : Stamp) (y : Resting) → settle s now (late s y .resting) ≡ (nothing leaving (late s y .resting))
 unfolding settle
 late-is-settled s now S1 = refl
 late-is-settled s now (S2 M m) = refl
@@ -59,7 +55,7 @@ settle-due : (s : Settings) (now : Stamp) (y : Resting) → due-by now (deadline
 unfolding settle
 settle-due s now y h = rw h
 
-settle-not-due : (s : Settings) (now : Stamp) (y : Resting) → due-by now (deadline s y) ≡ false → settle s now y ≡ (nothing then y)
+settle-not-due : (s : Settings) (now : Stamp) (y : Resting) → due-by now (deadline s y) ≡ false → settle s now y ≡ (nothing leaving y)
 unfolding settle
 settle-not-due s now y h = rw h
 
@@ -71,7 +67,7 @@ settle-sooner s u v le y = go (due-by u (deadline s y)) refl
     go true h =
         ap (λ (d : Done). and-then d (settle s v)) (settle-due s u y h)
         ∙ ap (after-items (late s y .items)) (late-is-settled s v y)
-        ∙ ap (λ (l : List Item). l then (late s y .resting)) (append-nil (late s y .items))
+        ∙ ap (λ (l : List Item). l leaving (late s y .resting)) (append-nil (late s y .items))
         ∙ sym (settle-due s v y (due-later u v le (deadline s y) h))
     go false h = ap (λ (d : Done). and-then d (settle s v)) (settle-not-due s u y h)
 
@@ -84,12 +80,12 @@ first-stamp (e ∷ ks) t = e .stamp
 
 -- what an event's input does
 abbrev act-as : Settings → Stamp → Resting → Option Input → Done
-act-as s now y none = nothing then y
+act-as s now y none = nothing leaving y
 act-as s now y (some i) = act s now y i
 
 -- from a state that is settled up to the first stamp
 abbrev onward : Settings → Stamp → Resting → List Event → Done
-onward s t y [] = nothing then y
+onward s t y [] = nothing leaving y
 onward s t y (e ∷ ks) =
     and-then (act-as s (e .stamp) y (input (e .kind) (e .key)))
     (λ z. and-then (settle s (first-stamp ks t) z) (λ v. onward s t v ks))
@@ -104,7 +100,7 @@ keyed-sooner s t u ks y le =
     sym (and-then-assoc (settle s u y) (settle s (first-stamp ks t)) (λ v. onward s t v ks))
     ∙ ap (λ (d : Done). and-then d (λ v. onward s t v ks)) (settle-sooner s u (first-stamp ks t) le y)
 
-act-tick : (s : Settings) (now : Stamp) (y : Resting) → act s now y Tick ≡ (nothing then y)
+act-tick : (s : Settings) (now : Stamp) (y : Resting) → act s now y Tick ≡ (nothing leaving y)
 act-tick s now S1 = refl
 act-tick s now (S2 M m) = refl
 act-tick s now (S3 O o) = refl
@@ -116,7 +112,7 @@ one-tick : (s : Settings) (now : Stamp) (y : Resting) → one-event s now y Tick
 unfolding one-event
 one-tick s now y =
     ap (after-items (settle s now y .items)) (act-tick s now (settle s now y .resting))
-    ∙ ap (λ (l : List Item). l then (settle s now y .resting)) (append-nil (settle s now y .items))
+    ∙ ap (λ (l : List Item). l leaving (settle s now y .resting)) (append-nil (settle s now y .items))
 
 only-tick : (i : Input) → is-key-input i ≡ false → i ≡ Tick
 only-tick (CharacterDown k) h = absurd (true≢false h)
@@ -131,12 +127,12 @@ unfolding input
 tick-input t i h = cc
 
 -- a refused event's number is not 0
-not-0 : {Q : Type 0} (n : ℕ) → eqb n 0 ≡ false → n ≡ 0 → Q
+pub not-0 : {Q : Type 0} (n : ℕ) → eqb n 0 ≡ false → n ≡ 0 → Q
 not-0 n z h = absurd (true≢false (sym (eq-eqb n 0 h) ∙ z))
 
 -- A sequence closed by a tick: its items and the state that it leaves.
 abbrev closed : Machine → List Event → Stamp → Done
-closed m es t = along items-in m (closed-by es t) then (after m (closed-by es t) .resting)
+closed m es t = along items-in m (with-event es (tick t)) leaving (after m (with-event es (tick t)) .resting)
 
 -- no key event of a sequence, nor its closing tick, comes before the machine's last stamp
 starts-after : (m : Machine) (es : List Event) (t : Stamp) → step (after m es) (tick t) .number ≡ 0
@@ -146,16 +142,16 @@ starts-after m [] t =
 starts-after m (e ∷ es) t =
     step-cases
     (λ (r : Answer).
-      step (after (r .machine) es) (tick t) .number ≡ 0
-      → m .last .0 ≤ first-stamp (key-event-in e r ++ along key-event-in (r .machine) es) t .0)
+    step (after (r .machine) es) (tick t) .number ≡ 0
+    → m .last .0 ≤ first-stamp (key-event-in e r ++ along key-event-in (r .machine) es) t .0)
     m
     e
     (λ n z h. rw z (starts-after m es t h))
     (λ i a h.
-      by-test (λ (l : List Event). m .last .0 ≤ first-stamp (l ++ along key-event-in (record { settings = m .settings; resting = one-event (m .settings) (e .stamp) (m .resting) i .resting; last = e .stamp }) es) t .0)
-      (within 1 5 (e .kind))
-      (λ _. a .not-before)
-      (λ _. le-trans (a .not-before) (starts-after _ es t h)))
+    by-test (λ (l : List Event). m .last .0 ≤ first-stamp (l ++ along key-event-in (record { settings = m .settings; resting = one-event (m .settings) (e .stamp) (m .resting) i .resting; last = e .stamp }) es) t .0)
+    (within 1 5 (e .kind))
+    (λ _. a .not-before)
+    (λ _. le-trans (a .not-before) (starts-after _ es t h)))
 
 -- an accepted key event acts, and the rest follows
 key-event-first : (s : Settings) (t : Stamp) (e : Event) (i : Input) (ks : List Event) (y : Resting)
@@ -171,16 +167,16 @@ pub closes : (m : Machine) (es : List Event) (t : Stamp) → step (after m es) (
     → closed m es t ≡ keyed (m .settings) t (along key-event-in m es) (m .resting)
 closes m [] t =
     step-cases
-    (λ (r : Answer). r .number ≡ 0 → ((r .items ++ []) then (r .machine .resting)) ≡ keyed (m .settings) t [] (m .resting)) m (tick t)
+    (λ (r : Answer). r .number ≡ 0 → ((r .items ++ []) leaving (r .machine .resting)) ≡ keyed (m .settings) t [] (m .resting)) m (tick t)
     (λ n z h. not-0 n z h)
-    (λ i a _. ap (λ (d : Done). (d .items ++ []) then (d .resting))
-      (ap (one-event (m .settings) t (m .resting)) (tick-input t i (a .is-input)) ∙ one-tick (m .settings) t (m .resting)))
+    (λ i a _. ap (λ (d : Done). (d .items ++ []) leaving (d .resting))
+    (ap (one-event (m .settings) t (m .resting)) (tick-input t i (a .is-input)) ∙ one-tick (m .settings) t (m .resting)))
 closes m (e ∷ es) t =
     step-cases
     (λ (r : Answer).
-      step (after (r .machine) es) (tick t) .number ≡ 0
-      → after-items (r .items) (closed (r .machine) es t)
-        ≡ keyed (m .settings) t (key-event-in e r ++ along key-event-in (r .machine) es) (m .resting))
+    step (after (r .machine) es) (tick t) .number ≡ 0
+    → after-items (r .items) (closed (r .machine) es t)
+    ≡ keyed (m .settings) t (key-event-in e r ++ along key-event-in (r .machine) es) (m .resting))
     m
     e
     (λ n z h. rw z (closes m es t h))
@@ -189,21 +185,22 @@ closes m (e ∷ es) t =
     next : Input → Machine
     next i =
         record { settings = m .settings; resting = one-event (m .settings) (e .stamp) (m .resting) i .resting; last = e .stamp }
+
     accepted-closes : (i : Input) → Accepted m e i
         → closed (next i) es t ≡ keyed (m .settings) t (along key-event-in (next i) es) (next i .resting)
         → e .stamp .0 ≤ first-stamp (along key-event-in (next i) es) t .0
         → after-items (one-event (m .settings) (e .stamp) (m .resting) i .items) (closed (next i) es t)
-          ≡ keyed (m .settings) t ((if within 1 5 (e .kind) then (e ∷ []) else []) ++ along key-event-in (next i) es) (m .resting)
+        ≡ keyed (m .settings) t ((if within 1 5 (e .kind) then (e ∷ []) else []) ++ along key-event-in (next i) es) (m .resting)
     accepted-closes i a more le =
         let d = one-event (m .settings) (e .stamp) (m .resting) i in
         let ks = along key-event-in (next i) es in
         ap (after-items (d .items)) more
         ∙ by-test
-          (λ (l : List Event). and-then d (keyed (m .settings) t ks) ≡ keyed (m .settings) t (l ++ ks) (m .resting))
-          (within 1 5 (e .kind))
-          (λ _. key-event-first (m .settings) t e i ks (m .resting) (a .is-input))
-          (λ no-key.
-            ap (λ (f : Done). and-then f (keyed (m .settings) t ks))
-            (ap (one-event (m .settings) (e .stamp) (m .resting)) (only-tick i (sym (a .parsed .key-event) ∙ no-key))
-            ∙ one-tick (m .settings) (e .stamp) (m .resting))
-            ∙ keyed-sooner (m .settings) t (e .stamp) ks (m .resting) le)
+        (λ (l : List Event). and-then d (keyed (m .settings) t ks) ≡ keyed (m .settings) t (l ++ ks) (m .resting))
+        (within 1 5 (e .kind))
+        (λ _. key-event-first (m .settings) t e i ks (m .resting) (a .is-input))
+        (λ no-key.
+        ap (λ (f : Done). and-then f (keyed (m .settings) t ks))
+        (ap (one-event (m .settings) (e .stamp) (m .resting)) (only-tick i (sym (a .parsed .key-event) ∙ no-key))
+        ∙ one-tick (m .settings) (e .stamp) (m .resting))
+        ∙ keyed-sooner (m .settings) t (e .stamp) ks (m .resting) le)

@@ -1,54 +1,51 @@
 -- Demand 3: one statement about every sequence of events from a fresh state. Its words are those of Sequences.antt; the proof
 -- is proofs/Demand3.antt.
-use Prim.Native.Nat.{ℕ, _+_, _≤_, _<_}
+use Prim.Native.Nat.{ℕ, _+_, _≤_}
 use mathlib.Core.Bool.{true}
 use mathlib.Core.List.{List, [], _∷_, _++_}
 use mathlib.Core.Path.{_≡_}
-use lib.ListN.{length}
 use Rattle.rules.specs.Numbers.{W, in-range}
-use Rattle.rules.specs.ZeroDelay.{shown, Sending, backspace, sign}
+use Rattle.rules.specs.ZeroDelay.{shown, Sending, backspace}
 use Rattle.rules.specs.GivenBack.{step}
-use Rattle.rules.specs.Sequences.{Press, keys-of, characters, waiting, typed, signs-among, state, presses, key-events, items, line, screen}
+use Rattle.rules.specs.Sequences.{Press, keys-of, characters, waiting, typed, signs-among, state, presses, accepted-key-events, items, Committed, line, screen}
 use Rattle.rules.specs.declared.Stamp.{Stamp}
-use Rattle.rules.specs.declared.Key.{Key}
 use Rattle.rules.specs.declared.Settings.{Settings}
 use Rattle.rules.specs.declared.Event.{Event}
+
+-- Sentence 1, keys are kept in order: the presses are those that the committed characters answer, key by key, and then the
+-- one that waits.
+pub record KeysInOrder (s : Settings) (es : List Event) : Type 0 where
+  pub answered : List Press
+  pub presses-are : presses s es ≡ answered ++ waiting (state s es .resting)
+  pub keys-are : keys-of answered ≡ characters (items s es)
+
+-- a sequence and one event more
+abbrev pub with-event : List Event → Event → List Event
+with-event es e = es ++ (e ∷ [])
+
+-- Sentence 2, committed within W: at each accepted event e of the sequence, every press p so far whose stamp lies W or more
+-- before e's is committed.
+abbrev pub CommittedWithinW : Settings → List Event → Type 0
+CommittedWithinW s es =
+    (upto rest : List Event) (e : Event) → es ≡ upto ++ (e ∷ rest) → step (state s upto) e .number ≡ 0
+    → (before behind : List Press) (p : Press) → presses s (with-event upto e) ≡ before ++ (p ∷ behind)
+    → p .stamp .0 + W s ≤ e .stamp .0
+    → Committed s (with-event upto e) before
 
 -- a tick: kind 6, key 0
 abbrev pub tick : Stamp → Event
 tick t = record { kind = 6; key = record { 0 = 0 }; stamp = t }
 
--- a list begins with another
-pub record Begins (l front : List ℕ) : Type 0 where
-  pub rest : List ℕ
-  pub joined : l ≡ front ++ rest
-
--- The sequence with a closing tick.
-abbrev pub closed-by : List Event → Stamp → List Event
-closed-by es t = es ++ (tick t ∷ [])
-
--- Sentence 1: the keys of the committed characters, then the waiting one, are the keys of the presses, in order.
-abbrev pub KeysInOrder : Settings → List Event → Type 0
-KeysInOrder s es = characters (items s es) ++ keys-of (waiting (state s es .resting)) ≡ keys-of (presses s es)
-
--- Sentence 2: a press p is committed once the last accepted stamp is W or more after it. It is answered when more characters
--- are committed than presses came before it.
-abbrev pub CommittedWithinW : Settings → List Event → Type 0
-CommittedWithinW s es =
-    (before behind : List Press) (p : Press) → presses s es ≡ before ++ (p ∷ behind)
-    → p .stamp .0 + W s ≤ state s es .last .0
-    → length before < length (characters (items s es))
-
--- Sentence 3: ticks do not matter. Another sequence with the same accepted key events, both closed by an accepted tick of one
--- stamp, commits the same items and leaves the same resting state.
+-- Sentence 3, ticks do not matter: another sequence with the same accepted key events, both closed by an accepted tick of one
+-- stamp, commits the same items and leaves the same state.
 pub record SameText (s : Settings) (es other : List Event) (t : Stamp) : Type 0 where
-  pub same-items : items s (closed-by es t) ≡ items s (closed-by other t)
-  pub same-resting : state s (closed-by es t) .resting ≡ state s (closed-by other t) .resting
+  pub same-items : items s (with-event es (tick t)) ≡ items s (with-event other (tick t))
+  pub same-state : state s (with-event es (tick t)) ≡ state s (with-event other (tick t))
 
 abbrev pub TicksDoNotMatter : Settings → List Event → Type 0
 TicksDoNotMatter s es =
     (other : List Event) (t : Stamp)
-    → key-events s es ≡ key-events s other
+    → accepted-key-events s es ≡ accepted-key-events s other
     → step (state s es) (tick t) .number ≡ 0
     → step (state s other) (tick t) .number ≡ 0
     → SameText s es other t
@@ -57,18 +54,24 @@ TicksDoNotMatter s es =
 abbrev pub ScreenIsLine : Settings → List Event → Type 0
 ScreenIsLine s es = screen s es ≡ line s es ++ shown (state s es .resting)
 
--- Sentence 5: at each event e of the sequence, each backspace leaves a screen that begins with the line committed before e,
--- and e sent no character or mark before it.
-pub record TakesNothing (s : Settings) (before : List Event) (sent-before : List Sending) : Type 0 where
-  pub line-stays : Begins (typed (screen s before) (sent-before ++ (backspace ∷ []))) (line s before)
+-- a list begins with another
+pub record Begins (l front : List ℕ) : Type 0 where
+  pub rest : List ℕ
+  pub joined : l ≡ front ++ rest
+
+-- Sentence 5, no backspace takes a committed character. 01: it takes one when the screen it leaves doesn't begin with the line
+-- committed before its event, or when that event sent a character or mark before it. This is the contrary of both: at the event
+-- that comes after `upto`, behind `sent-before`.
+pub record TakesNothing (s : Settings) (upto : List Event) (sent-before : List Sending) : Type 0 where
+  pub line-stays : Begins (typed (screen s upto) (sent-before ++ (backspace ∷ []))) (line s upto)
   pub no-sign-before : signs-among sent-before ≡ []
 
+-- at each event e of the sequence, each backspace that it sends
 abbrev pub NoBackspaceTakesCommitted : Settings → List Event → Type 0
 NoBackspaceTakesCommitted s es =
-    (before behind : List Event) (e : Event) → es ≡ before ++ (e ∷ behind)
-    → (sent-before sent-behind : List Sending)
-    → step (state s before) e .sendings ≡ sent-before ++ (backspace ∷ sent-behind)
-    → TakesNothing s before sent-before
+    (upto rest : List Event) (e : Event) → es ≡ upto ++ (e ∷ rest)
+    → (sent-before sent-behind : List Sending) → step (state s upto) e .sendings ≡ sent-before ++ (backspace ∷ sent-behind)
+    → TakesNothing s upto sent-before
 
 pub record Demand3 (s : Settings) (es : List Event) : Type 0 where
   pub keys-in-order : KeysInOrder s es

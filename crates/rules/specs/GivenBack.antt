@@ -1,8 +1,7 @@
 -- Document 01, "Numbers given back", for events: which events are refused, in which order, and one step as a whole. The
 -- kinds and keys of events are those of section "Log".
 use Prim.Native.Nat.{ℕ}
-use mathlib.Core.Bool.{Bool, true, false}
-use mathlib.Core.List.{List, [], _∷_, _++_}
+use mathlib.Core.List.{List, [], _++_}
 use mathlib.Core.Option.{Option, none, some}
 use lib.Dec.{ltb, eqb}
 use Rattle.rules.specs.Choice.{if_then_else_}
@@ -14,7 +13,6 @@ use Rattle.rules.specs.declared.Stamp.{Stamp}
 use Rattle.rules.specs.declared.Key.{Key}
 use Rattle.rules.specs.declared.Thumb.{Thumb}
 use Rattle.rules.specs.declared.Thumb.the-variants.{Left, Right}
-use Rattle.rules.specs.declared.Resting.{Resting}
 use Rattle.rules.specs.declared.Machine.{Machine}
 use Rattle.rules.specs.declared.Item.{Item}
 use Rattle.rules.specs.declared.Event.{Event}

@@ -21,7 +21,7 @@ abbrev pub row : String → String → String → Row
 row p l r = record { plain = p; left = l; right = r }
 
 -- The table. Keys 0-4 are B01-B05, 5-9 B06-B10, 10-14 C01-C05, 15-19 C06-C10, 20-24 D01-D05, 25-30 D06-D11.
--- "-" is an empty face. The first sign is U+FF0E, the comma of key 29 is U+FF0C.
+-- "-" is an empty face. The stop of key 0 is U+FF0E, the comma of key 29 U+FF0C.
 unfoldable pub table : List Row
 table =
     row "．ひすふへ" "ぅーろやぃ" "-びずぶべ" ∷
@@ -31,13 +31,13 @@ table =
     row "。かたこさ" "ぁえりゃれ" "-がだござ" ∷
     row "らちくつ，、" "ぱぢぐづぴ-" "よにるまぇ-" ∷ []
 
--- a row's signs on one face
+-- a row's characters on one face
 abbrev pub on : Face → Row → String
 on Plain w = w .plain
 on (With Left) w = w .left
 on (With Right) w = w .right
 
--- a sign's code point, 0 for an empty face
+-- a character's code point, 0 for an empty face
 abbrev pub code-or-0 : Char → ℕ
 code-or-0 c = if eqb (code c) (code "-") then 0 else code c
 

@@ -1,9 +1,13 @@
 pub mod Choice
 pub mod Numbers
 pub mod Layout
+pub mod LayoutFacts
 pub mod States
 pub mod OneEvent
 pub mod ZeroDelay
 pub mod GivenBack
+pub mod Refusals
 pub mod Sequences
 pub mod Demand3
+pub mod StepFacts
+pub mod Examples

@@ -22,13 +22,24 @@ T-least = 50
 abbrev pub T-most : ℕ
 T-most = 200
 
+-- the bounds of J and L, in percent
+abbrev pub percent-least : ℕ
+percent-least = 1
+
+abbrev pub percent-most : ℕ
+percent-most = 99
+
 -- n lies from the least to the most, both included
 abbrev pub within : ℕ → ℕ → ℕ → Bool
 within least most n = leb least n && leb n most
 
 -- T 50 to 200; J and L 1 to 99; solo 0 or 1
 unfoldable pub in-range : Settings → Bool
-in-range s = within T-least T-most (s .t) && within 1 99 (s .j) && within 1 99 (s .l) && within 0 1 (s .solo)
+in-range s =
+    within T-least T-most (s .t)
+    && within percent-least percent-most (s .j)
+    && within percent-least percent-most (s .l)
+    && within 0 1 (s .solo)
 
 -- n / d, rounded up
 unfoldable pub up : ℕ → ℕ → ℕ

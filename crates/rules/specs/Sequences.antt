@@ -1,9 +1,10 @@
--- Document 01, "The words of demand 3": what a sequence of events is, and what is read off it.
-use Prim.Native.Nat.{ℕ}
-use mathlib.Core.Bool.{Bool, true, false, _&&_}
+-- Document 01, "The words of demand 3": what a sequence of events is, and what is read off it (at the end of this file: the
+-- state that it leaves, its presses, accepted key events, items, line and screen).
+use Prim.Native.Nat.{ℕ, _<_}
+use mathlib.Core.Bool.{Bool, _&&_}
 use mathlib.Core.List.{List, [], _∷_, _++_}
-use mathlib.Core.Path.{_≡_}
 use lib.Dec.{eqb}
+use lib.ListN.{length}
 use Rattle.rules.specs.Choice.{if_then_else_}
 use Rattle.rules.specs.Numbers.{within}
 use Rattle.rules.specs.States.{fresh}
@@ -49,7 +50,7 @@ keys-of (p ∷ ps) = p .key ∷ keys-of ps
 abbrev pub press-in : Event → Answer → List Press
 press-in e r = if is-accepted r && eqb (e .kind) 1 then (press (e .key) (e .stamp) ∷ []) else []
 
--- kinds 1 to 5 are key events
+-- kinds 1 to 5 are key events; whether one is accepted is not a matter of demand 3
 abbrev pub key-event-in : Event → Answer → List Event
 key-event-in e r = if is-accepted r && within 1 5 (e .kind) then (e ∷ []) else []
 
@@ -92,7 +93,7 @@ signs-among [] = []
 signs-among (backspace ∷ more) = signs-among more
 signs-among (sign c ∷ more) = c ∷ signs-among more
 
--- A sequence of events from a fresh state: the state it leaves, and its presses, key events, items, line and screen.
+-- What is read off a sequence of events es from a fresh state with settings s.
 module _ (s : Settings) (es : List Event) where
   abbrev pub state : Machine
   state = after (fresh s) es
@@ -100,11 +101,16 @@ module _ (s : Settings) (es : List Event) where
   abbrev pub presses : List Press
   presses = along press-in (fresh s) es
 
-  abbrev pub key-events : List Event
-  key-events = along key-event-in (fresh s) es
+  abbrev pub accepted-key-events : List Event
+  accepted-key-events = along key-event-in (fresh s) es
 
   abbrev pub items : List Item
   items = along items-in (fresh s) es
+
+  -- Each committed character answers the first press not yet answered. So a press is answered, and that is committed, when
+  -- more characters are committed than presses came before it.
+  abbrev pub Committed : List Press → Type 0
+  Committed before = length before < length (characters items)
 
   -- the committed line: empty faces left out
   abbrev pub line : List ℕ

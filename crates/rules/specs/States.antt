@@ -1,7 +1,7 @@
 -- Document 01, "Resting states": deadlines, the fresh state and well-formedness.
 -- In every state M is a character key pressed at m, O a thumb pressed at o, r the thumb's release.
 use Prim.Native.Nat.{ℕ, _+_, _-_, min}
-use mathlib.Core.Bool.{Bool, true, false, _&&_}
+use mathlib.Core.Bool.{Bool, true, _&&_}
 use mathlib.Core.Option.{Option, none, some}
 use lib.Dec.{ltb, leb, eqb}
 use Rattle.rules.specs.Choice.{if_then_else_}
@@ -19,7 +19,7 @@ use Rattle.rules.specs.declared.Opened.the-variants.{OutOfRange, Ready}
 abbrev pub at : ℕ → Stamp
 at n = record { 0 = n }
 
--- the lag from one stamp to another
+-- the lag from stamp a to stamp b: b-a
 abbrev pub lag : Stamp → Stamp → ℕ
 lag a b = b .0 - a .0
 
@@ -75,7 +75,11 @@ in-order (S6 O o M m r) = at-or-before o m && at-or-before m r
 
 unfoldable pub well-formed : Machine → Bool
 well-formed x =
-    in-range (x .settings) && keys-below (x .resting) && stamps-by (x .last) (x .resting) && at-or-before (x .last) (at largest-stamp) && in-order (x .resting)
+    in-range (x .settings)
+    && keys-below (x .resting)
+    && stamps-by (x .last) (x .resting)
+    && at-or-before (x .last) (at largest-stamp)
+    && in-order (x .resting)
 
 -- Opening a machine: the number given back, and the machine if there is one.
 pub record Opening : Type 0 where

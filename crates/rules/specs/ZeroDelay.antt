@@ -1,6 +1,6 @@
 -- Document 01, "Zero delay": what is shown while a character waits, and what a step sends.
 use Prim.Native.Nat.{ℕ}
-use mathlib.Core.List.{List, [], _∷_, _++_, map}
+use mathlib.Core.List.{List, [], _∷_, _++_}
 use lib.Dec.{eqb}
 use Rattle.rules.specs.Choice.{if_then_else_}
 use Rattle.rules.specs.Layout.{code-point}
@@ -60,8 +60,9 @@ abbrev pub take-back : List ℕ → List Sending
 take-back [] = []
 take-back (c ∷ p) = backspace ∷ take-back p
 
--- What a step sends, from p, shown before it, and q, its committed signs followed by what is shown after it. No p: q. p is
--- the first of q: the rest. Else one backspace, then q. (At most one sign is shown, so p has at most one.)
+-- What a step sends, from p, shown before it, and q, its committed signs followed by what is shown after it: what p and q begin
+-- with alike stays, each other sign of p costs a backspace, the rest of q follows. At most one sign is shown, and for that 01
+-- has three cases. No p: send q. p is the first of q: send the rest. Else: one backspace, then q. (StepFacts.antt states them.)
 unfoldable pub sent : List ℕ → List ℕ → List Sending
 sent [] q = send q
 sent (c ∷ p) [] = take-back (c ∷ p)

@@ -11,7 +11,7 @@ pub struct Stamp(pub u64);
 // The milliseconds from one stamp to a later one.
 pub struct Lag(pub u64);
 
-// The number of a key: a character key's, or 0 and 1 for the left and the right thumb key.
+// The number of a key: a character key's; 0 and 1 for the left and the right thumb key; 0 for the function key and a tick.
 pub struct Key(pub u8);
 
 pub enum Thumb {
@@ -90,8 +90,11 @@ impl Settings {
     pub const SHORT_OVERLAP: Lag = Lag(400);
     // The bounds of T, and of J and L.
     pub const T_LEAST: u16 = 50;
+
     pub const T_MOST: u16 = 200;
+
     pub const PERCENT_LEAST: u8 = 1;
+
     pub const PERCENT_MOST: u8 = 99;
 
     pub fn in_range(self) -> bool

@@ -1,0 +1,139 @@
+-- Every refusal stands in its place: by the outcome of each check, in their order.
+use Prim.Native.Nat.{ℕ, _≤_}
+use mathlib.Core.Bool.{Bool, true, false, true≢false}
+use mathlib.Core.Logic.{_↔_}
+use mathlib.Core.Option.{Option, none, some}
+use mathlib.Core.Path.{_≡_, refl, sym, _∙_, ap}
+use native.Mathlib.Omega.{arith}
+use borrow.Author.Tests.{ltb-true, ltb-false}
+use lib.Dec.{ltb}
+use Rattle.rules.specs.Numbers.{largest-stamp}
+use Rattle.rules.specs.States.{well-formed}
+use Rattle.rules.specs.GivenBack.{input, judge, step, refusal}
+use Rattle.rules.specs.Refusals.{NotWellFormed, NotAllowed, AboveLargest, BeforeLast, LeftAsGiven, Refusals}
+use Rattle.rules.specs.declared.Machine.{Machine}
+use Rattle.rules.specs.declared.Event.{Event}
+use Rattle.rules.specs.declared.Input.{Input}
+
+both : {A B : Type 0} → A → B → A ↔ B
+both a b = (λ x. b, λ y. a)
+
+neither : {A B : Type 0} → ¬ A → ¬ B → A ↔ B
+neither f g = (λ a. absurd (f a), λ b. absurd (g b))
+
+as-given : (m : Machine) (e : Event) (n : ℕ) → step m e ≡ refusal m n → LeftAsGiven m (step m e)
+as-given m e n s = rw s (record { no-items = refl; no-sendings = refl; machine-as-given = refl })
+
+is-well-formed : (m : Machine) → well-formed m ≡ true → ¬ NotWellFormed m
+is-well-formed m w n = true≢false (sym w ∙ n)
+
+is-allowed : (e : Event) (j : Input) → input (e .kind) (e .key) ≡ some j → ¬ NotAllowed e
+is-allowed e j i n =
+    let z : true ≡ false = cc in
+    true≢false z
+
+not-above : (e : Event) → ltb largest-stamp (e .stamp .0) ≡ false → ¬ AboveLargest e
+not-above e x h =
+    let l : e .stamp .0 ≤ largest-stamp = ltb-false _ _ x in
+    omega arith
+
+not-before : (m : Machine) (e : Event) → ltb (e .stamp .0) (m .last .0) ≡ false → ¬ BeforeLast m e
+not-before m e y h =
+    let l : m .last .0 ≤ e .stamp .0 = ltb-false _ _ y in
+    omega arith
+
+module _ (m : Machine) (e : Event) where
+  by-2 : well-formed m ≡ false → Refusals m e
+  unfolding step judge
+  by-2 w =
+      let s : step m e ≡ refusal m 2 = rw w in
+      let n : step m e .number ≡ 2 = ap (λ r. r .number) s in
+      record {
+        gives-2 = both n w;
+        gives-3 = neither (λ g. omega arith) (λ r. r .0 w);
+        gives-4 = neither (λ g. omega arith) (λ r. r .0 w);
+        gives-5 = neither (λ g. omega arith) (λ r. r .0 w);
+        gives-0 = neither (λ g. omega arith) (λ r. r .0 w);
+        refused = λ f. as-given m e 2 s;
+      }
+
+  by-3 : well-formed m ≡ true → NotAllowed e → Refusals m e
+  unfolding step judge
+  by-3 w i =
+      let s : step m e ≡ refusal m 3 = rw (w, i) in
+      let n : step m e .number ≡ 3 = ap (λ r. r .number) s in
+      let f : ¬ NotWellFormed m = is-well-formed m w in
+      record {
+        gives-2 = neither (λ g. omega arith) f;
+        gives-3 = both n (f, i);
+        gives-4 = neither (λ g. omega arith) (λ r. r .1 i);
+        gives-5 = neither (λ g. omega arith) (λ r. r .1 i);
+        gives-0 = neither (λ g. omega arith) (λ r. r .1 i);
+        refused = λ h. as-given m e 3 s;
+      }
+
+  module _ (j : Input) (w : well-formed m ≡ true) (i : input (e .kind) (e .key) ≡ some j) where
+    by-4 : ltb largest-stamp (e .stamp .0) ≡ true → Refusals m e
+    unfolding step judge
+    by-4 x =
+        let s : step m e ≡ refusal m 4 = rw (w, i, x) in
+        let n : step m e .number ≡ 4 = ap (λ r. r .number) s in
+        let f : ¬ NotWellFormed m = is-well-formed m w in
+        let a : ¬ NotAllowed e = is-allowed e j i in
+        let h : AboveLargest e = ltb-true _ _ x in
+        record {
+          gives-2 = neither (λ g. omega arith) f;
+          gives-3 = neither (λ g. omega arith) (λ r. a (r .1));
+          gives-4 = both n (f, a, h);
+          gives-5 = neither (λ g. omega arith) (λ r. r .2 h);
+          gives-0 = neither (λ g. omega arith) (λ r. r .2 h);
+          refused = λ g. as-given m e 4 s;
+        }
+
+    by-5 : ltb largest-stamp (e .stamp .0) ≡ false → ltb (e .stamp .0) (m .last .0) ≡ true → Refusals m e
+    unfolding step judge
+    by-5 x y =
+        let s : step m e ≡ refusal m 5 = rw (w, i, x, y) in
+        let n : step m e .number ≡ 5 = ap (λ r. r .number) s in
+        let f : ¬ NotWellFormed m = is-well-formed m w in
+        let a : ¬ NotAllowed e = is-allowed e j i in
+        let l : ¬ AboveLargest e = not-above e x in
+        let h : BeforeLast m e = ltb-true _ _ y in
+        record {
+          gives-2 = neither (λ g. omega arith) f;
+          gives-3 = neither (λ g. omega arith) (λ r. a (r .1));
+          gives-4 = neither (λ g. omega arith) (λ r. l (r .2));
+          gives-5 = both n (f, a, l, h);
+          gives-0 = neither (λ g. omega arith) (λ r. r .3 h);
+          refused = λ g. as-given m e 5 s;
+        }
+
+    by-0 : ltb largest-stamp (e .stamp .0) ≡ false → ltb (e .stamp .0) (m .last .0) ≡ false → Refusals m e
+    unfolding step judge
+    by-0 x y =
+        let n : step m e .number ≡ 0 = rw (w, i, x, y) in
+        let f : ¬ NotWellFormed m = is-well-formed m w in
+        let a : ¬ NotAllowed e = is-allowed e j i in
+        let l : ¬ AboveLargest e = not-above e x in
+        let h : ¬ BeforeLast m e = not-before m e y in
+        record {
+          gives-2 = neither (λ g. omega arith) f;
+          gives-3 = neither (λ g. omega arith) (λ r. a (r .1));
+          gives-4 = neither (λ g. omega arith) (λ r. l (r .2));
+          gives-5 = neither (λ g. omega arith) (λ r. h (r .3));
+          gives-0 = both n (f, a, l, h);
+          refused = λ g. absurd (g n);
+        }
+
+pub refusals : (m : Machine) (e : Event) → Refusals m e
+refusals m e = go (well-formed m) refl (input (e .kind) (e .key)) refl (ltb largest-stamp (e .stamp .0)) refl (ltb (e .stamp .0) (m .last .0)) refl
+  where
+    go : (b : Bool) → well-formed m ≡ b → (i : Option Input) → input (e .kind) (e .key) ≡ i
+        → (x : Bool) → ltb largest-stamp (e .stamp .0) ≡ x
+        → (y : Bool) → ltb (e .stamp .0) (m .last .0) ≡ y
+        → Refusals m e
+    go false w i p x q y r = by-2 m e w
+    go true w none p x q y r = by-3 m e w p
+    go true w (some j) p true q y r = by-4 m e j w p q
+    go true w (some j) p false q true r = by-5 m e j w p q r
+    go true w (some j) p false q false r = by-0 m e j w p q r

@@ -1,0 +1,182 @@
+-- Document 01, "Keystrokes to try": the examples P1 to P11 as one table, and the numbers that 01 works out as another. The
+-- proofs are in proofs/Examples.antt.
+use Prim.Native.Nat.{ℕ}
+use Prim.Native.Char.{code}
+use Prim.Native.String.{String}
+use mathlib.Core.List.{List, [], _∷_, _++_, map}
+use mathlib.Core.Path.{_≡_}
+use Rattle.rules.specs.Numbers.{A, B, D, W, FJ}
+use Rattle.rules.specs.LayoutFacts.{key}
+use Rattle.rules.specs.States.{at}
+use Rattle.rules.specs.ZeroDelay.{Sending, backspace, sign}
+use Rattle.rules.specs.GivenBack.{step}
+use Rattle.rules.specs.Sequences.{state, items}
+use Rattle.rules.specs.declared.Thumb.{Thumb}
+use Rattle.rules.specs.declared.Thumb.the-variants.{Left, Right}
+use Rattle.rules.specs.declared.Settings.{Settings}
+use Rattle.rules.specs.declared.Resting.{Resting}
+use Rattle.rules.specs.declared.Resting.the-variants.{S1, S3}
+use Rattle.rules.specs.declared.Face.the-variants.{Plain, With}
+use Rattle.rules.specs.declared.Item.{Item}
+use Rattle.rules.specs.declared.Item.the-variants.{Character, Mark}
+use Rattle.rules.specs.declared.Event.{Event}
+
+-- T, J, L, solo
+abbrev pub settings : ℕ → ℕ → ℕ → ℕ → Settings
+settings t j l solo = record { t = t; j = j; l = l; solo = solo }
+
+-- key 21 is か, え, が; 24 is さ, れ, ざ
+abbrev pub か : Item
+か = Character (key 21) Plain
+
+abbrev pub え : Item
+え = Character (key 21) (With Left)
+
+abbrev pub が : Item
+が = Character (key 21) (With Right)
+
+abbrev pub ざ : Item
+ざ = Character (key 24) (With Right)
+
+abbrev pub right-mark : Item
+right-mark = Mark Right
+
+-- A line of an example: an event, or what 01 says of the moment after the events above it.
+pub data Line : Type 0 where
+  event : Event → Line
+  -- the items of the whole run so far
+  text : List Item → Line
+  -- the resting state
+  rests : Resting → Line
+  -- what the last event sent
+  sent : List Sending → Line
+
+-- an event's kind, key and stamp
+abbrev pub arrives : ℕ → ℕ → ℕ → Line
+arrives kind k n = event (record { kind = kind; key = key k; stamp = at n })
+
+abbrev pub thumb-key : Thumb → ℕ
+thumb-key Left = 0
+thumb-key Right = 1
+
+abbrev pub down : ℕ → ℕ → Line
+down k n = arrives 1 k n
+
+abbrev pub up : ℕ → ℕ → Line
+up k n = arrives 2 k n
+
+abbrev pub thumb : Thumb → ℕ → Line
+thumb O n = arrives 3 (thumb-key O) n
+
+abbrev pub thumb-up : Thumb → ℕ → Line
+thumb-up O n = arrives 4 (thumb-key O) n
+
+abbrev pub tick : ℕ → Line
+tick n = arrives 6 0 n
+
+-- An example: its name, the settings and its lines.
+pub record Example : Type 0 where
+  pub name : String
+  pub settings : Settings
+  pub lines : List Line
+
+abbrev pub example : String → Settings → List Line → Example
+example n s l = record { name = n; settings = s; lines = l }
+
+-- T=100, J=L=50, solo 0 unless said
+abbrev pub usual : Settings
+usual = settings 100 50 50 0
+
+abbrev pub with-solo : Settings
+with-solo = settings 100 50 50 1
+
+abbrev pub with-J-60 : Settings
+with-J-60 = settings 100 60 50 0
+
+abbrev pub with-J-70 : Settings
+with-J-70 = settings 100 70 50 0
+
+abbrev pub nothing : Line
+nothing = text []
+
+abbrev pub examples : List Example
+examples =
+    example "P1" usual (down 21 0 ∷ tick 99 ∷ nothing ∷ tick 100 ∷ text (か ∷ []) ∷ []) ∷
+    example "P2" usual (down 21 0 ∷ up 21 50 ∷ text (か ∷ []) ∷ []) ∷
+    example "P3" usual (down 21 0 ∷ thumb Right 30 ∷ up 21 59 ∷ text (か ∷ []) ∷ rests (S3 Right (at 30)) ∷ []) ∷
+    example "P4" usual (down 21 0 ∷ thumb Right 30 ∷ up 21 60 ∷ text (が ∷ []) ∷ rests S1 ∷ []) ∷
+    example "P5" usual (thumb Right 0 ∷ down 21 30 ∷ tick 59 ∷ nothing ∷ tick 60 ∷ text (が ∷ []) ∷ []) ∷
+    example "P6" usual (down 21 0 ∷ thumb Right 0 ∷ tick 0 ∷ text (が ∷ []) ∷ []) ∷
+    example "P7" usual
+    (down 21 0 ∷ thumb Right 30 ∷ down 24 50 ∷ text (か ∷ []) ∷ tick 70 ∷ text (か ∷ ざ ∷ []) ∷ []) ∷
+    example "P8" with-J-60
+    (down 21 0 ∷ thumb Right 30 ∷ down 24 60 ∷ text (か ∷ []) ∷ tick 90 ∷ text (か ∷ ざ ∷ []) ∷ []) ∷
+    example "P9" with-solo
+    (thumb Right 0 ∷ down 21 40 ∷ thumb-up Right 60 ∷ tick 79 ∷ nothing ∷ tick 80 ∷ text (right-mark ∷ か ∷ []) ∷
+    sent (backspace ∷ sign 2 ∷ sign (code "か") ∷ []) ∷ []) ∷
+    example "P10" with-solo
+    (thumb Right 0 ∷ down 21 40 ∷ thumb Left 60 ∷ text (right-mark ∷ []) ∷ tick 80 ∷ text (right-mark ∷ え ∷ []) ∷ []) ∷
+    example "P11" usual (thumb Right 0 ∷ down 21 1000 ∷ tick 1099 ∷ nothing ∷ tick 1100 ∷ text (が ∷ []) ∷ []) ∷ []
+
+-- Two of "Where a programmer slips": the deadline that is due comes before the event; waits are rounded up.
+abbrev pub slips : List Example
+slips =
+    example "late first" usual (down 21 0 ∷ thumb Right 100 ∷ tick 200 ∷ text (か ∷ []) ∷ []) ∷
+    example "rounded up" with-J-70 (down 21 0 ∷ thumb Right 10 ∷ tick 33 ∷ nothing ∷ tick 34 ∷ text (が ∷ []) ∷ []) ∷ []
+
+-- The lines as the rules have them: each thing that 01 says is replaced by what there is. es are the events so far, from a
+-- fresh state; q is what the last of them sent.
+abbrev pub observed-lines : Settings → List Event → List Sending → List Line → List Line
+observed-lines s es q [] = []
+observed-lines s es q (event e ∷ ls) = event e ∷ observed-lines s (es ++ (e ∷ [])) (step (state s es) e .sendings) ls
+observed-lines s es q (text said ∷ ls) = text (items s es) ∷ observed-lines s es q ls
+observed-lines s es q (rests said ∷ ls) = rests (state s es .resting) ∷ observed-lines s es q ls
+observed-lines s es q (sent said ∷ ls) = sent q ∷ observed-lines s es q ls
+
+abbrev pub observed : Example → Example
+observed x = example (x .name) (x .settings) (observed-lines (x .settings) [] [] (x .lines))
+
+-- The examples hold: what the rules give is what the table says.
+abbrev pub ExamplesHold : Type 0
+ExamplesHold = map observed examples ≡ examples
+
+abbrev pub SlipsHold : Type 0
+SlipsHold = map observed slips ≡ slips
+
+-- A number that 01 works out.
+pub data Number : Type 0 where
+  A-is : ℕ → Number
+  B-is : ℕ → Number
+  D-is : ℕ → Number
+  W-is : ℕ → Number
+  -- FJ of a lag
+  FJ-is : ℕ → ℕ → Number
+
+pub record Worked : Type 0 where
+  pub settings : Settings
+  pub numbers : List Number
+
+abbrev pub worked : Settings → List Number → Worked
+worked s n = record { settings = s; numbers = n }
+
+-- Where 01 leaves L open it is 50.
+abbrev pub numbers : List Worked
+numbers =
+    worked with-J-60 (A-is 67 ∷ FJ-is 30 45 ∷ []) ∷
+    worked with-J-70 (FJ-is 10 24 ∷ []) ∷
+    worked usual (W-is 200 ∷ []) ∷
+    worked (settings 200 99 99 0) (A-is 3 ∷ B-is 3 ∷ D-is 297 ∷ W-is 29_700 ∷ []) ∷ []
+
+abbrev pub computed-number : Settings → Number → Number
+computed-number s (A-is n) = A-is (A s)
+computed-number s (B-is n) = B-is (B s)
+computed-number s (D-is n) = D-is (D s)
+computed-number s (W-is n) = W-is (W s)
+computed-number s (FJ-is x n) = FJ-is x (FJ s x)
+
+abbrev pub computed : Worked → Worked
+computed w = worked (w .settings) (map (computed-number (w .settings)) (w .numbers))
+
+-- The numbers hold: what the definitions give is what the table says.
+abbrev pub NumbersHold : Type 0
+NumbersHold = map computed numbers ≡ numbers

@@ -1,0 +1,44 @@
+-- Document 01, "Numbers given back": a number is given exactly when its row holds and no earlier check fired. The order on an
+-- event is 2, 3, 4, 5. The proof is proofs/Refusals.antt.
+use Prim.Native.Nat.{_<_}
+use mathlib.Core.Bool.{false}
+use mathlib.Core.List.{[]}
+use mathlib.Core.Logic.{_↔_, _≢_}
+use mathlib.Core.Option.{none}
+use mathlib.Core.Path.{_≡_}
+use Rattle.rules.specs.Numbers.{largest-stamp}
+use Rattle.rules.specs.States.{well-formed}
+use Rattle.rules.specs.GivenBack.{Answer, input, step}
+use Rattle.rules.specs.declared.Machine.{Machine}
+use Rattle.rules.specs.declared.Event.{Event}
+
+-- The rows of the table. 2: state not well formed
+abbrev pub NotWellFormed : Machine → Type 0
+NotWellFormed m = well-formed m ≡ false
+
+-- 3: kind or key not allowed
+abbrev pub NotAllowed : Event → Type 0
+NotAllowed e = input (e .kind) (e .key) ≡ none
+
+-- 4: stamp above the largest
+abbrev pub AboveLargest : Event → Type 0
+AboveLargest e = largest-stamp < e .stamp .0
+
+-- 5: stamp before the last accepted
+abbrev pub BeforeLast : Machine → Event → Type 0
+BeforeLast m e = e .stamp .0 < m .last .0
+
+-- state handed back as given, nothing committed, nothing sent
+pub record LeftAsGiven (m : Machine) (r : Answer) : Type 0 where
+  pub no-items : r .items ≡ []
+  pub no-sendings : r .sendings ≡ []
+  pub machine-as-given : r .machine ≡ m
+
+-- What holds of every machine and event.
+pub record Refusals (m : Machine) (e : Event) : Type 0 where
+  pub gives-2 : step m e .number ≡ 2 ↔ NotWellFormed m
+  pub gives-3 : step m e .number ≡ 3 ↔ ((¬ NotWellFormed m) × NotAllowed e)
+  pub gives-4 : step m e .number ≡ 4 ↔ ((¬ NotWellFormed m) × (¬ NotAllowed e) × AboveLargest e)
+  pub gives-5 : step m e .number ≡ 5 ↔ ((¬ NotWellFormed m) × (¬ NotAllowed e) × (¬ AboveLargest e) × BeforeLast m e)
+  pub gives-0 : step m e .number ≡ 0 ↔ ((¬ NotWellFormed m) × (¬ NotAllowed e) × (¬ AboveLargest e) × (¬ BeforeLast m e))
+  pub refused : step m e .number ≢ 0 → LeftAsGiven m (step m e)
