@@ -8,14 +8,14 @@ use Rattle.rules.specs.Numbers.{in-range, up, A, B, FJ, FL, D, X, W}
 use Rattle.rules.specs.declared.Settings.{Settings}
 use Rattle.rules.proofs.Tests.{InRange, range-bounds}
 
+up-positive : (n d : ℕ) → 0 < d → 0 < n → 1 ≤ up n d
+unfolding up
+up-positive n d pos h = le-div-iff-mul-le pos .1 (omega arith)
+
 up-mono : (n k d : ℕ) → 0 < d → n ≤ k → up n d ≤ up k d
 unfolding up
 up-mono n k d pos h =
     le-div-iff-mul-le pos .1 (le-trans (div-mul-le-self (n + (d - 1)) d) (omega arith))
-
-up-positive : (n d : ℕ) → 0 < d → 0 < n → 1 ≤ up n d
-unfolding up
-up-positive n d pos h = le-div-iff-mul-le pos .1 (omega arith)
 
 pub FJ-mono : (s : Settings) → InRange s → (x y : ℕ) → x ≤ y → FJ s x ≤ FJ s y
 unfolding FJ
