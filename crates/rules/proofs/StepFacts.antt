@@ -102,7 +102,7 @@ S1-commits-nothing s now (ThumbUp P) = refl
 S1-commits-nothing s now FunctionDown = refl
 S1-commits-nothing s now Tick = refl
 
-late-leaves-S1 : (s : Settings) (y : Resting) → late s y .resting ≡ S1
+pub late-leaves-S1 : (s : Settings) (y : Resting) → late s y .resting ≡ S1
 late-leaves-S1 s S1 = refl
 late-leaves-S1 s (S2 M m) = refl
 late-leaves-S1 s (S3 O o) = refl

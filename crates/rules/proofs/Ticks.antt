@@ -25,6 +25,7 @@ use Rattle.rules.specs.declared.Input.{Input}
 use Rattle.rules.specs.declared.Input.the-variants.{CharacterDown, CharacterUp, ThumbDown, ThumbUp, FunctionDown, Tick}
 use Rattle.rules.proofs.Choices.{by-test}
 use Rattle.rules.proofs.Steps.{is-key-input, Accepted, step-cases}
+use Rattle.rules.proofs.StepFacts.{late-leaves-S1}
 
 -- items in front of what is done
 abbrev pub after-items : List Item → Done → Done
@@ -40,12 +41,7 @@ and-then-assoc d f g =
 -- a late line leaves a state that is never due
 late-is-settled : (s : Settings) (now : Stamp) (y : Resting) → settle s now (late s y .resting) ≡ (nothing leaving (late s y .resting))
 unfolding settle
-late-is-settled s now S1 = refl
-late-is-settled s now (S2 M m) = refl
-late-is-settled s now (S3 O o) = refl
-late-is-settled s now (S4 M m O o) = refl
-late-is-settled s now (S5 O o M m) = refl
-late-is-settled s now (S6 O o M m r) = refl
+late-is-settled s now y = rw (late-leaves-S1 s y)
 
 due-later : (u v : Stamp) → u .0 ≤ v .0 → (d : Option Stamp) → due-by u d ≡ true → due-by v d ≡ true
 due-later u v le none h = h
