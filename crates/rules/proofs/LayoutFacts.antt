@@ -1,7 +1,7 @@
 -- The facts of the layout. Two tests are computed over all entries of the table, and each is turned into a law for every key
 -- and face.
 use Prim.Native.Nat.{ℕ, zero, suc, _+_, _<_, _≤_}
-use mathlib.Core.Bool.{Bool, true, false, not, _&&_, _||_, false≢true}
+use mathlib.Core.Bool.{Bool, true, false, not, _&&_, _||_, and-eq-true-iff}
 use mathlib.Core.List.{List, [], _∷_, _++_}
 use mathlib.Core.Logic.{_≢_}
 use mathlib.Core.Path.{_≡_, refl, sym, _∙_, ap}
@@ -18,23 +18,15 @@ use Rattle.rules.specs.declared.Thumb.the-variants.{Left, Right}
 use Rattle.rules.specs.declared.Face.{Face}
 use Rattle.rules.specs.declared.Face.the-variants.{Plain, With}
 
-and-left : (a b : Bool) → (a && b) ≡ true → a ≡ true
-and-left true b e = refl
-and-left false b e = e
-
-and-right : (a b : Bool) → (a && b) ≡ true → b ≡ true
-and-right true b e = e
-and-right false b e = absurd (false≢true e)
-
 -- every entry passes the test f
-abbrev every : (ℕ → Bool) → List ℕ → Bool
+abbrev pub every : (ℕ → Bool) → List ℕ → Bool
 every f [] = true
 every f (c ∷ l) = f c && every f l
 
-every-at : (f : ℕ → Bool) (l : List ℕ) → f 0 ≡ true → every f l ≡ true → (i : ℕ) → f (getD l i 0) ≡ true
+pub every-at : (f : ℕ → Bool) (l : List ℕ) → f 0 ≡ true → every f l ≡ true → (i : ℕ) → f (getD l i 0) ≡ true
 every-at f [] z e i = z
-every-at f (c ∷ l) z e zero = and-left (f c) (every f l) e
-every-at f (c ∷ l) z e (suc i) = every-at f l z (and-right (f c) (every f l) e) i
+every-at f (c ∷ l) z e zero = and-eq-true-iff (f c) (every f l) .0 e .0
+every-at f (c ∷ l) z e (suc i) = every-at f l z (and-eq-true-iff (f c) (every f l) .0 e .1) i
 
 -- c is not among the entries
 abbrev absent : ℕ → List ℕ → Bool
@@ -48,8 +40,8 @@ distinct (c ∷ l) = (eqb c 0 || absent c l) && distinct l
 
 absent-at : (c : ℕ) (l : List ℕ) → c ≢ 0 → absent c l ≡ true → (i : ℕ) → c ≢ getD l i 0
 absent-at c [] n e i = n
-absent-at c (d ∷ l) n e zero = eqb-false c d (not-true (eqb c d) (and-left (not (eqb c d)) (absent c l) e))
-absent-at c (d ∷ l) n e (suc i) = absent-at c l n (and-right (not (eqb c d)) (absent c l) e) i
+absent-at c (d ∷ l) n e zero = eqb-false c d (not-true (eqb c d) (and-eq-true-iff (not (eqb c d)) (absent c l) .0 e .0))
+absent-at c (d ∷ l) n e (suc i) = absent-at c l n (and-eq-true-iff (not (eqb c d)) (absent c l) .0 e .1) i
 
 absent-after : (c : ℕ) (l : List ℕ) → c ≢ 0 → (eqb c 0 || absent c l) ≡ true → absent c l ≡ true
 absent-after c l n e = go (eqb c 0) refl e
@@ -62,11 +54,11 @@ absent-after c l n e = go (eqb c 0) refl e
 one-place : (l : List ℕ) → distinct l ≡ true → (i j : ℕ) → getD l i 0 ≢ 0 → getD l i 0 ≡ getD l j 0 → i ≡ j
 one-place [] d i j n e = absurd (n refl)
 one-place (c ∷ l) d zero zero n e = refl
-one-place (c ∷ l) d zero (suc j) n e = absurd (absent-at c l n (absent-after c l n (and-left (eqb c 0 || absent c l) (distinct l) d)) j e)
+one-place (c ∷ l) d zero (suc j) n e = absurd (absent-at c l n (absent-after c l n (and-eq-true-iff (eqb c 0 || absent c l) (distinct l) .0 d .0)) j e)
 one-place (c ∷ l) d (suc i) zero n e =
     let m : c ≢ 0 = λ z. n (e ∙ z) in
-    absurd (absent-at c l m (absent-after c l m (and-left (eqb c 0 || absent c l) (distinct l) d)) i (sym e))
-one-place (c ∷ l) d (suc i) (suc j) n e = ap suc (one-place l (and-right (eqb c 0 || absent c l) (distinct l) d) i j n e)
+    absurd (absent-at c l m (absent-after c l m (and-eq-true-iff (eqb c 0 || absent c l) (distinct l) .0 d .0)) i (sym e))
+one-place (c ∷ l) d (suc i) (suc j) n e = ap suc (one-place l (and-eq-true-iff (eqb c 0 || absent c l) (distinct l) .0 d .1) i j n e)
 
 -- where a key's face stands among all faces
 abbrev place : Face → ℕ → ℕ
@@ -85,7 +77,7 @@ unfolding code-point
 beyond k f h = List·getD-eq-default (face-of f table) 0 (rw each-31 h)
 
 -- a key with a character is one of the thirty-one
-is-there : (k : Key) (f : Face) → code-point k f ≢ 0 → k .0 < 31
+pub is-there : (k : Key) (f : Face) → code-point k f ≢ 0 → k .0 < 31
 is-there k f n = go (decLt (k .0) 31)
   where
     go : Dec (k .0 < 31) → k .0 < 31
