@@ -1,0 +1,12 @@
+-- `waits::alone` meets its contract.
+use borrow.Author.Needs.{needs}
+use Rattle.waits.proofs.alone.Statement.{statement}
+use Rattle.waits.proofs.alone.Tie as tie
+
+pub alone-spec : {M : Type 1} → statement M
+alone-spec =
+    tie.close
+    (tie.spec
+    (λ c κs. search needs)
+    (λ c κs. search needs)
+    (λ c. rw (← c .before .rest .ensures, ← c .share .ensures)))

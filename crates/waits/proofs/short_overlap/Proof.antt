@@ -1,0 +1,17 @@
+-- `waits::short_overlap` meets its contract.
+use native.Mathlib.Omega.{arith}
+use borrow.Author.Needs.{needs}
+use Rattle.waits.proofs.Bounds.{lag-bound, overlap-product, short-at-most, not-short}
+use Rattle.waits.proofs.short_overlap.Statement.{statement}
+use Rattle.waits.proofs.short_overlap.Tie as tie
+
+pub short-overlap-spec : {M : Type 1} → statement M
+short-overlap-spec =
+    tie.close
+    (tie.spec
+    (λ c. not-short _ _ _ (c .if1 .taken))
+    (λ c. search needs)
+    (λ c κs. search needs)
+    (λ c. rw (c .bounded .ensures) (omega (arith, lag-bound (c .before .before .before .args .a .0))))
+    (λ c. rw (c .bounded .ensures) (omega (arith, overlap-product (c .before .before .before .fits .percent .fits) (lag-bound (c .before .before .before .args .a .0)) (c .before .if1 .left))))
+    (λ c. rw (c .bounded .ensures) (short-at-most _ _ _ (c .before .if1 .left))))

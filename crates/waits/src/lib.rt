@@ -1,0 +1,202 @@
+// Arithmetic of stamps and lags. Stamps, lags and key numbers are unwrapped here, and where a key is an index into the layout.
+// Every function takes any numbers: a sum that would not fit stops at the largest number, and a lag that is multiplied
+// counts as the largest stamp at most. Neither bound is met in a machine that is well formed.
+use rules::Key;
+use rules::Lag;
+use rules::Machine;
+use rules::Settings;
+use rules::Stamp;
+ghost use mathlib.Core.Path.{_≡_};
+ghost use Prim.Native.Nat.{_+_, _-_, _*_, _≤_, min, max};
+ghost use Rattle.rules.specs.Numbers as Numbers;
+ghost use Rattle.rules.specs.Numbers.{largest-stamp, up};
+ghost use Rattle.rules.specs.States.{lag, at-or-before, is-key};
+ghost use Rattle.rules.specs.OneEvent.{same-key, second-character-takes-thumb, second-thumb-takes-character, short-overlap};
+ghost use Rattle.waits.specs.Capped.{later-at-most, lag-at-most, is-before};
+
+// The largest number that a stamp can hold.
+const LARGEST_NUMBER: u64 = 18_446_744_073_709_551_615;
+
+// The lag from one stamp to another, none where the other is not later.
+pub fn lag(from: Stamp, to: Stamp) -> Lag
+    ensures { λ r. ⌜ r .0 ≡ lag from to ⌝ }
+{
+    let start = from.0;
+    let end = to.0;
+    if end < start {
+        return Lag(0);
+    }
+    Lag(end - start)
+}
+
+// The stamp a lag later.
+pub fn later(from: Stamp, by: Lag) -> Stamp
+    ensures { λ r. ⌜ r ≡ later-at-most from (by .0) ⌝ }
+{
+    let start = from.0;
+    let more = by.0;
+    if LARGEST_NUMBER - start < more {
+        return Stamp(LARGEST_NUMBER);
+    }
+    Stamp(start + more)
+}
+
+pub fn at_or_before(a: Stamp, b: Stamp) -> bool
+    ensures { λ r. ⌜ r ≡ at-or-before a b ⌝ }
+{
+    a.0 <= b.0
+}
+
+pub fn before(a: Stamp, b: Stamp) -> bool
+    ensures { λ r. ⌜ r ≡ is-before a b ⌝ }
+{
+    a.0 < b.0
+}
+
+// A lag, or a cap where that is shorter.
+pub fn shorter(x: Lag, cap: Lag) -> Lag
+    ensures { λ r. ⌜ r .0 ≡ min (x .0) (cap .0) ⌝ }
+{
+    if x.0 <= cap.0 {
+        return x;
+    }
+    cap
+}
+
+pub fn same_key(a: Key, b: Key) -> bool
+    ensures { λ r. ⌜ r ≡ same-key a b ⌝ }
+{
+    a.0 == b.0
+}
+
+pub fn is_key(k: Key) -> bool
+    ensures { λ r. ⌜ r ≡ is-key k ⌝ }
+{
+    k.0 < Machine::KEYS.0
+}
+
+// S4, a second character: it takes the thumb from the first.
+pub fn second_character_takes_thumb(a: Lag, b: Lag) -> bool
+    ensures { λ r. ⌜ r ≡ second-character-takes-thumb (a .0) (b .0) ⌝ }
+{
+    b.0 <= a.0
+}
+
+// S5, a second thumb: it takes the character from the first.
+pub fn second_thumb_takes_character(a: Lag, b: Lag) -> bool
+    ensures { λ r. ⌜ r ≡ second-thumb-takes-character (a .0) (b .0) ⌝ }
+{
+    b.0 <= a.0
+}
+
+// The overlap b after the gap a is short: in its share of both, and in milliseconds. The gap is bounded, since its product
+// might not fit; a gap at the bound decides as every longer one.
+pub fn short_overlap(percent: u8, a: Lag, b: Lag) -> bool
+    ensures { λ r. ⌜ r ≡ short-overlap percent (a .0) (b .0) ⌝ }
+{
+    let overlap = b.0;
+    if Settings::SHORT_OVERLAP.0 <= overlap {
+        return false;
+    }
+    100 * overlap < (percent as u64) * (bounded(a) + overlap)
+}
+
+// What a percentage leaves of 100.
+fn rest(percent: u8) -> u8
+    ensures { λ r. ⌜ r ≡ 100 - percent ⌝ }
+{
+    if 100 < percent {
+        return 0;
+    }
+    100 - percent
+}
+
+// A lag that can be multiplied.
+fn bounded(x: Lag) -> u64
+    ensures { λ r. ⌜ r ≡ lag-at-most (x .0) ⌝ }
+{
+    let most = Machine::LARGEST.0;
+    if x.0 <= most {
+        return x.0;
+    }
+    most
+}
+
+// x n / d, rounded up; 0 where d is 0. The only division.
+fn share(x: u64, n: u8, d: u8) -> u64
+    requires { ⌜ x ≤ largest-stamp ⌝ }
+    ensures { λ r. ⌜ r ≡ up (x * n) d ⌝ }
+{
+    if d == 0 {
+        return 0;
+    }
+    let less_one = (d - 1) as u64;
+    (x * (n as u64) + less_one) / (d as u64)
+}
+
+// The wait of one key alone: t by the rest of the percentage, over the percentage.
+fn alone(t: u16, percent: u8) -> Lag
+    ensures { λ r. ⌜ r .0 ≡ up (t * (100 - percent)) percent ⌝ }
+{
+    Lag(share(t as u64, rest(percent), percent))
+}
+
+// The wait of two keys, the second a lag after the first: the lag by the percentage, over its rest.
+fn together(x: Lag, percent: u8) -> Lag
+    ensures { λ r. ⌜ r .0 ≡ up (lag-at-most (x .0) * percent) (100 - percent) ⌝ }
+{
+    Lag(share(bounded(x), percent, rest(percent)))
+}
+
+// A, the wait of a character alone.
+pub fn character_wait(s: Settings) -> Lag
+    ensures { λ r. ⌜ r .0 ≡ Numbers.A s ⌝ }
+{
+    alone(s.t, s.j)
+}
+
+// B, the wait of a thumb alone.
+pub fn thumb_wait(s: Settings) -> Lag
+    ensures { λ r. ⌜ r .0 ≡ Numbers.B s ⌝ }
+{
+    alone(s.t, s.l)
+}
+
+// FJ, the wait of a character and a thumb that came a lag later.
+pub fn character_first_wait(s: Settings, x: Lag) -> Lag
+    ensures { λ r. ⌜ r .0 ≡ Numbers.FJ s (lag-at-most (x .0)) ⌝ }
+{
+    together(x, s.j)
+}
+
+// FL, the wait of a thumb and a character that came a lag later.
+pub fn thumb_first_wait(s: Settings, x: Lag) -> Lag
+    ensures { λ r. ⌜ r .0 ≡ Numbers.FL s (lag-at-most (x .0)) ⌝ }
+{
+    together(x, s.l)
+}
+
+fn longer(x: Lag, y: Lag) -> Lag
+    ensures { λ r. ⌜ r .0 ≡ max (x .0) (y .0) ⌝ }
+{
+    if x.0 <= y.0 {
+        return y;
+    }
+    x
+}
+
+// X, the larger of A and D = FL(B).
+fn first_wait(s: Settings) -> Lag
+    ensures { λ r. ⌜ r .0 ≡ Numbers.X s ⌝ }
+{
+    longer(character_wait(s), thumb_first_wait(s, thumb_wait(s)))
+}
+
+// W, the longest wait.
+pub fn longest_wait(s: Settings) -> Lag
+    ensures { λ r. ⌜ r .0 ≡ Numbers.W s ⌝ }
+{
+    let first = first_wait(s);
+    let second = longer(first, character_first_wait(s, first));
+    Lag(first.0 + second.0)
+}
