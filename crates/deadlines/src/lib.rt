@@ -1,0 +1,136 @@
+// When a resting state is due, and whether a machine is well formed. key is M, a character key pressed at m, thumb is O, a
+// thumb pressed at o, r is the thumb's release.
+use rules::Machine;
+use rules::Resting;
+use rules::Settings;
+use rules::Stamp;
+use waits::at_or_before;
+use waits::character_first_wait;
+use waits::character_wait;
+use waits::is_key;
+use waits::lag;
+use waits::later;
+use waits::shorter;
+use waits::thumb_first_wait;
+use waits::thumb_wait;
+ghost use mathlib.Core.Path.{_≡_};
+ghost use Rattle.rules.specs.States.{keys-below, stamps-by, in-order, well-formed, asking};
+ghost use Rattle.deadlines.specs.Views.{when, asked};
+ghost use Rattle.deadlines.specs.Capped.{deadline-at-most};
+
+// The deadline of a resting state, if it has one.
+pub enum Due {
+    Never,
+    At(Stamp),
+}
+
+// The answer to a machine that is asked for its next deadline.
+pub enum Asked {
+    // Refusal 2.
+    NotWellFormed,
+    Never,
+    At(Stamp),
+}
+
+pub fn deadline(s: Settings, resting: Resting) -> Due
+    ensures { λ r. ⌜ when r ≡ deadline-at-most s resting ⌝ }
+{
+    match resting {
+        Resting::S1 => Due::Never,
+        Resting::S2(_, m) => Due::At(later(m, character_wait(s))),
+        Resting::S3(_, o) => {
+            if s.solo == 1 {
+                Due::At(later(o, thumb_wait(s)))
+            } else {
+                Due::Never
+            }
+        }
+        Resting::S4(_, m, _, o) => Due::At(later(o, character_first_wait(s, lag(m, o)))),
+        // The wait is that of a lone thumb at most, however long the thumb was held before M.
+        Resting::S5(_, o, _, m) => {
+            Due::At(later(m, thumb_first_wait(s, shorter(lag(o, m), thumb_wait(s)))))
+        }
+        Resting::S6(_, _, _, m, r) => Due::At(later(r, lag(m, r))),
+    }
+}
+
+fn keys_below(resting: Resting) -> bool
+    ensures { λ r. ⌜ r ≡ keys-below resting ⌝ }
+{
+    match resting {
+        Resting::S1 => true,
+        Resting::S2(key, _) => is_key(key),
+        Resting::S3(_, _) => true,
+        Resting::S4(key, _, _, _) => is_key(key),
+        Resting::S5(_, _, key, _) => is_key(key),
+        Resting::S6(_, _, key, _, _) => is_key(key),
+    }
+}
+
+fn stamps_by(last: Stamp, resting: Resting) -> bool
+    ensures { λ r. ⌜ r ≡ stamps-by last resting ⌝ }
+{
+    match resting {
+        Resting::S1 => true,
+        Resting::S2(_, m) => at_or_before(m, last),
+        Resting::S3(_, o) => at_or_before(o, last),
+        Resting::S4(_, m, _, o) => at_or_before(m, last) && at_or_before(o, last),
+        Resting::S5(_, o, _, m) => at_or_before(o, last) && at_or_before(m, last),
+        Resting::S6(_, o, _, m, r) => {
+            if at_or_before(o, last) {
+                at_or_before(m, last) && at_or_before(r, last)
+            } else {
+                false
+            }
+        }
+    }
+}
+
+fn in_order(resting: Resting) -> bool
+    ensures { λ r. ⌜ r ≡ in-order resting ⌝ }
+{
+    match resting {
+        Resting::S1 => true,
+        Resting::S2(_, _) => true,
+        Resting::S3(_, _) => true,
+        Resting::S4(_, m, _, o) => at_or_before(m, o),
+        Resting::S5(_, o, _, m) => at_or_before(o, m),
+        Resting::S6(_, o, _, m, r) => at_or_before(o, m) && at_or_before(m, r),
+    }
+}
+
+pub fn well_formed(machine: Machine) -> bool
+    ensures { λ r. ⌜ r ≡ well-formed machine ⌝ }
+{
+    let s = machine.settings;
+    let resting = machine.resting;
+    let last = machine.last;
+    if !s.in_range() {
+        return false;
+    }
+    if !keys_below(resting) {
+        return false;
+    }
+    if !stamps_by(last, resting) {
+        return false;
+    }
+    if !at_or_before(last, Machine::LARGEST) {
+        return false;
+    }
+    in_order(resting)
+}
+
+// The next deadline of any machine.
+pub fn next_deadline(machine: Machine) -> Asked
+    ensures { λ r. ⌜ asked r ≡ asking machine ⌝ }
+{
+    if !well_formed(machine) {
+        return Asked::NotWellFormed;
+    }
+    let s = machine.settings;
+    let resting = machine.resting;
+    match deadline(s, resting) {
+        Due::Never => Asked::Never,
+        Due::At(stamp) => Asked::At(stamp),
+    }
+}

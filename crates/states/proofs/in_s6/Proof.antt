@@ -1,0 +1,30 @@
+-- `states::in_s6` meets its contract.
+use borrow.Author.Needs.{needs}
+use Rattle.states.proofs.in_s6.Statement.{statement}
+use Rattle.states.proofs.in_s6.Tie as tie
+
+pub in-s6-spec : {M : Type 1} → statement M
+in-s6-spec =
+    tie.close
+    (tie.spec
+    (λ c. search needs)
+    (λ c κs. tt)
+    (λ c. search needs)
+    (λ c κs. tt)
+    (λ c κs. tt)
+    (λ c κs. tt)
+    (λ c. search needs)
+    (λ c κs. tt)
+    (λ c. search needs)
+    (λ c κs. tt)
+    (λ c. search needs)
+    (λ c κs. tt)
+    (λ c. search needs)
+    (λ c κs. tt)
+    (λ c. rw (c .before .before .input .given .1, ← c .commits-chord .ensures))
+    (λ c. rw (c .before .before .before .before .input2 .given .1, ← c .before .before .same-key .ensures, c .before .if1 .taken, ← c .commits-chord2 .ensures))
+    (λ c. rw (c .before .before .before .before .input2 .given .1, ← c .before .before .same-key .ensures, c .before .if1 .left, ← c .goes-to .ensures))
+    (λ c. rw (c .before .before .input3 .given .1, ← c .commits-chord3 .ensures))
+    (λ c. rw (c .before .enum-told .given .1, ← c .goes-to2 .ensures))
+    (λ c. rw (c .before .enum-told2 .given .1, ← c .commits-both .ensures))
+    (λ c. rw (c .before .enum-told3 .given .1, ← c .goes-to3 .ensures)))

@@ -1,0 +1,266 @@
+// What each resting state does when it is late and at each event: one function for each state, in the order of document 01.
+// key is M, a character key pressed at m, thumb is O, a thumb pressed at o, r is the thumb's release; n is the new character
+// key, p the thumb of the event.
+use effects::Effect;
+use effects::commits_both;
+use effects::commits_chord;
+use effects::commits_mark;
+use effects::commits_plain;
+use effects::goes_to;
+use effects::same_thumb;
+use rules::Input;
+use rules::Key;
+use rules::Resting;
+use rules::Settings;
+use rules::Stamp;
+use rules::Thumb;
+use waits::lag;
+use waits::same_key;
+use waits::second_character_takes_thumb;
+use waits::second_thumb_takes_character;
+use waits::short_overlap;
+ghost use mathlib.Core.Path.{_≡_};
+ghost use Rattle.rules.specs.Choice.{if_then_else_};
+ghost use Rattle.rules.specs.States.{lag};
+ghost use Rattle.rules.specs.OneEvent.{_leaving_, nothing, mark, plain, chord, second-thumb-takes-character, short-overlap, late, in-S1, in-S2, in-S3, in-S4, in-S5, in-S6, act};
+ghost use Rattle.rules.specs.declared.Resting.the-variants.{S1, S3, S4, S6};
+ghost use Rattle.effects.specs.Views.{done};
+
+pub fn late(s: Settings, resting: Resting) -> Effect
+    ensures { λ r. ⌜ done r ≡ late s resting ⌝ }
+{
+    match resting {
+        Resting::S1 => goes_to(Resting::S1),
+        Resting::S2(key, _) => commits_plain(key, Resting::S1),
+        Resting::S3(thumb, _) => commits_mark(s, thumb, Resting::S1),
+        Resting::S4(key, _, thumb, _) => commits_chord(key, thumb, Resting::S1),
+        Resting::S5(thumb, _, key, _) => commits_chord(key, thumb, Resting::S1),
+        Resting::S6(thumb, _, key, _, _) => commits_both(s, thumb, key),
+    }
+}
+
+fn in_s1(now: Stamp, input: Input) -> Effect
+    ensures { λ r. ⌜ done r ≡ in-S1 now input ⌝ }
+{
+    match input {
+        Input::CharacterDown(n) => goes_to(Resting::S2(n, now)),
+        Input::CharacterUp(_) => goes_to(Resting::S1),
+        Input::ThumbDown(p) => goes_to(Resting::S3(p, now)),
+        Input::ThumbUp(_) => goes_to(Resting::S1),
+        Input::FunctionDown => goes_to(Resting::S1),
+        Input::Tick => goes_to(Resting::S1),
+    }
+}
+
+fn in_s2(now: Stamp, key: Key, m: Stamp, input: Input) -> Effect
+    ensures { λ r. ⌜ done r ≡ in-S2 now key m input ⌝ }
+{
+    let same = Resting::S2(key, m);
+    match input {
+        Input::CharacterDown(n) => commits_plain(key, Resting::S2(n, now)),
+        Input::CharacterUp(n) => {
+            if same_key(n, key) {
+                commits_plain(key, Resting::S1)
+            } else {
+                goes_to(same)
+            }
+        }
+        Input::ThumbDown(p) => goes_to(Resting::S4(key, m, p, now)),
+        Input::ThumbUp(_) => goes_to(same),
+        Input::FunctionDown => commits_plain(key, Resting::S1),
+        Input::Tick => goes_to(same),
+    }
+}
+
+fn in_s3(s: Settings, now: Stamp, thumb: Thumb, o: Stamp, input: Input) -> Effect
+    ensures { λ r. ⌜ done r ≡ in-S3 s now thumb o input ⌝ }
+{
+    let same = Resting::S3(thumb, o);
+    match input {
+        Input::CharacterDown(n) => goes_to(Resting::S5(thumb, o, n, now)),
+        Input::CharacterUp(_) => goes_to(same),
+        Input::ThumbDown(p) => {
+            if same_thumb(p, thumb) {
+                goes_to(same)
+            } else {
+                commits_mark(s, thumb, Resting::S3(p, now))
+            }
+        }
+        Input::ThumbUp(p) => {
+            if same_thumb(p, thumb) {
+                commits_mark(s, thumb, Resting::S1)
+            } else {
+                goes_to(same)
+            }
+        }
+        Input::FunctionDown => commits_mark(s, thumb, Resting::S1),
+        Input::Tick => goes_to(same),
+    }
+}
+
+// S4, M is released: the overlap decides whether O was meant for M.
+fn key_up_in_s4(s: Settings, now: Stamp, key: Key, m: Stamp, thumb: Thumb, o: Stamp) -> Effect
+    ensures { λ r. ⌜ done r ≡ (if short-overlap (s .j) (lag m o) (lag o now) then (plain key leaving S3 thumb o) else (chord key thumb leaving S1)) ⌝ }
+{
+    if short_overlap(s.j, lag(m, o), lag(o, now)) {
+        return commits_plain(key, Resting::S3(thumb, o));
+    }
+    commits_chord(key, thumb, Resting::S1)
+}
+
+fn in_s4(
+    s: Settings,
+    now: Stamp,
+    key: Key,
+    m: Stamp,
+    thumb: Thumb,
+    o: Stamp,
+    input: Input,
+) -> Effect
+    ensures { λ r. ⌜ done r ≡ in-S4 s now key m thumb o input ⌝ }
+{
+    let same = Resting::S4(key, m, thumb, o);
+    match input {
+        Input::CharacterDown(n) => {
+            if second_character_takes_thumb(lag(m, o), lag(o, now)) {
+                commits_plain(key, Resting::S5(thumb, o, n, now))
+            } else {
+                commits_chord(key, thumb, Resting::S2(n, now))
+            }
+        }
+        Input::CharacterUp(n) => {
+            if same_key(n, key) {
+                key_up_in_s4(s, now, key, m, thumb, o)
+            } else {
+                goes_to(same)
+            }
+        }
+        Input::ThumbDown(p) => {
+            if same_thumb(p, thumb) {
+                goes_to(same)
+            } else {
+                commits_chord(key, thumb, Resting::S3(p, now))
+            }
+        }
+        Input::ThumbUp(p) => {
+            if same_thumb(p, thumb) {
+                commits_chord(key, thumb, Resting::S1)
+            } else {
+                goes_to(same)
+            }
+        }
+        Input::FunctionDown => commits_chord(key, thumb, Resting::S1),
+        Input::Tick => goes_to(same),
+    }
+}
+
+// S5, the other thumb p is pressed: the gaps decide which thumb was meant for M.
+fn thumb_down_in_s5(
+    s: Settings,
+    now: Stamp,
+    thumb: Thumb,
+    o: Stamp,
+    key: Key,
+    m: Stamp,
+    p: Thumb,
+) -> Effect
+    ensures { λ r. ⌜ done r ≡ (if second-thumb-takes-character (lag o m) (lag m now) then (mark s thumb leaving S4 key m p now) else (chord key thumb leaving S3 p now)) ⌝ }
+{
+    if second_thumb_takes_character(lag(o, m), lag(m, now)) {
+        return commits_mark(s, thumb, Resting::S4(key, m, p, now));
+    }
+    commits_chord(key, thumb, Resting::S3(p, now))
+}
+
+// S5, O is released: the overlap decides whether it may still turn out that O was not meant for M.
+fn thumb_up_in_s5(s: Settings, now: Stamp, thumb: Thumb, o: Stamp, key: Key, m: Stamp) -> Effect
+    ensures { λ r. ⌜ done r ≡ (if short-overlap (s .l) (lag o m) (lag m now) then (nothing leaving S6 thumb o key m now) else (chord key thumb leaving S1)) ⌝ }
+{
+    if short_overlap(s.l, lag(o, m), lag(m, now)) {
+        return goes_to(Resting::S6(thumb, o, key, m, now));
+    }
+    commits_chord(key, thumb, Resting::S1)
+}
+
+fn in_s5(
+    s: Settings,
+    now: Stamp,
+    thumb: Thumb,
+    o: Stamp,
+    key: Key,
+    m: Stamp,
+    input: Input,
+) -> Effect
+    ensures { λ r. ⌜ done r ≡ in-S5 s now thumb o key m input ⌝ }
+{
+    let same = Resting::S5(thumb, o, key, m);
+    match input {
+        Input::CharacterDown(n) => commits_chord(key, thumb, Resting::S2(n, now)),
+        Input::CharacterUp(n) => {
+            if same_key(n, key) {
+                commits_chord(key, thumb, Resting::S1)
+            } else {
+                goes_to(same)
+            }
+        }
+        Input::ThumbDown(p) => {
+            if same_thumb(p, thumb) {
+                goes_to(same)
+            } else {
+                thumb_down_in_s5(s, now, thumb, o, key, m, p)
+            }
+        }
+        Input::ThumbUp(p) => {
+            if same_thumb(p, thumb) {
+                thumb_up_in_s5(s, now, thumb, o, key, m)
+            } else {
+                goes_to(same)
+            }
+        }
+        Input::FunctionDown => commits_chord(key, thumb, Resting::S1),
+        Input::Tick => goes_to(same),
+    }
+}
+
+fn in_s6(
+    s: Settings,
+    now: Stamp,
+    thumb: Thumb,
+    o: Stamp,
+    key: Key,
+    m: Stamp,
+    r: Stamp,
+    input: Input,
+) -> Effect
+    ensures { λ e. ⌜ done e ≡ in-S6 s now thumb o key m r input ⌝ }
+{
+    let same = Resting::S6(thumb, o, key, m, r);
+    match input {
+        Input::CharacterDown(n) => commits_chord(key, thumb, Resting::S2(n, now)),
+        Input::CharacterUp(n) => {
+            if same_key(n, key) {
+                commits_chord(key, thumb, Resting::S1)
+            } else {
+                goes_to(same)
+            }
+        }
+        Input::ThumbDown(p) => commits_chord(key, thumb, Resting::S3(p, now)),
+        Input::ThumbUp(_) => goes_to(same),
+        Input::FunctionDown => commits_both(s, thumb, key),
+        Input::Tick => goes_to(same),
+    }
+}
+
+// What a state does at an event.
+pub fn act(s: Settings, now: Stamp, resting: Resting, input: Input) -> Effect
+    ensures { λ r. ⌜ done r ≡ act s now resting input ⌝ }
+{
+    match resting {
+        Resting::S1 => in_s1(now, input),
+        Resting::S2(key, m) => in_s2(now, key, m, input),
+        Resting::S3(thumb, o) => in_s3(s, now, thumb, o, input),
+        Resting::S4(key, m, thumb, o) => in_s4(s, now, key, m, thumb, o, input),
+        Resting::S5(thumb, o, key, m) => in_s5(s, now, thumb, o, key, m, input),
+        Resting::S6(thumb, o, key, m, r) => in_s6(s, now, thumb, o, key, m, r, input),
+    }
+}
