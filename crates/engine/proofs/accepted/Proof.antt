@@ -1,0 +1,12 @@
+-- `engine::accepted` meets its contract.
+use Rattle.deadlines.proofs.Formed.{well-formed-deadline}
+use Rattle.engine.proofs.accepted.Statement.{statement}
+use Rattle.engine.proofs.accepted.Tie as tie
+
+pub accepted-spec : {M : Type 1} → statement M
+accepted-spec =
+    tie.close
+    (tie.spec
+    (λ c κs. well-formed-deadline _ (c .before .pre))
+    (λ c κs. tt)
+    (λ c. rw (← c .before .one-event .ensures, ← c .sent .ensures)))

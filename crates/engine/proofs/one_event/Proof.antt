@@ -1,0 +1,24 @@
+-- `engine::one_event` meets its contract.
+use mathlib.Core.Path.{sym, _∙_}
+use Rattle.engine.proofs.Laws.{late-first, not-late}
+use Rattle.engine.proofs.one_event.Statement.{statement}
+use Rattle.engine.proofs.one_event.Tie as tie
+
+pub one-event-spec : {M : Type 1} → statement M
+one-event-spec =
+    tie.close
+    (tie.spec
+    (λ c κs. tt)
+    (λ c κs. tt)
+    (λ c κs. tt)
+    (λ c.
+    let d = c .before .before .before in
+    rw (
+      late-first _ _ _ _ (sym (rw (d .before .pre) at (d .is-due .ensures)) ∙ c .before .before .if1 .taken),
+      ← c .before .late .ensures,
+      ← c .act .ensures,
+    ))
+    (λ c κs. tt)
+    (λ c.
+    let d = c .before .before in
+    rw (not-late _ _ _ _ (sym (rw (d .before .pre) at (d .is-due .ensures)) ∙ c .before .if1 .left), ← c .act2 .ensures)))

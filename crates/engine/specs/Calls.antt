@@ -1,0 +1,35 @@
+-- What a caller of `Machine::open` and `engine::step` sees. Each clause below is the contract of one of the two functions, and both
+-- hold at every input, so a caller's own sequence of calls is a `CodeRun`, whatever the settings and the events are.
+use mathlib.Core.Path.{_≡_}
+use mathlib.Core.List.{List, [], _∷_, _++_}
+use Rattle.rules.specs.States.{opening, opened}
+use Rattle.rules.specs.GivenBack.{Answer, step}
+use Rattle.rules.specs.declared.Settings.{Settings}
+use Rattle.rules.specs.declared.Machine.{Machine}
+use Rattle.rules.specs.declared.Opened.the-variants.{Ready}
+use Rattle.rules.specs.declared.Event.{Event}
+use Rattle.engine.specs.Views.{stepped}
+use Rattle.engine.specs.declared.Stepped.{Stepped}
+
+-- calls of `engine::step`, each with the machine that the one before gave back: what each answers
+pub data Calls : Machine → List Event → List Stepped → Type 0 where
+  no-more : {m : Machine} → Calls m [] []
+  call : {m : Machine} {e : Event} {r : Stepped} {es : List Event} {rs : List Stepped} → stepped r ≡ step m e
+      → Calls (r .machine) es rs
+      → Calls m (e ∷ es) (r ∷ rs)
+
+-- a machine that `Machine::open` gave for settings s, and calls from it
+pub record CodeRun (s : Settings) (m : Machine) (es : List Event) (rs : List Stepped) : Type 0 where
+  pub machine-opened : opened (Ready m) ≡ opening s
+  pub calls : Calls m es rs
+
+-- the machine that the last call gave back
+abbrev pub last-machine : Machine → List Stepped → Machine
+last-machine m [] = m
+last-machine m (r ∷ rs) = last-machine (r .machine) rs
+
+-- what f reads off each event and its answer, joined along the calls
+abbrev pub along-calls : {X : Type 0} → (Event → Answer → List X) → List Event → List Stepped → List X
+along-calls f [] rs = []
+along-calls f (e ∷ es) [] = []
+along-calls f (e ∷ es) (r ∷ rs) = f e (stepped r) ++ along-calls f es rs

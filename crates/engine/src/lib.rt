@@ -1,0 +1,229 @@
+// One event at a machine: whether it is refused, what it commits and sends, and the machine after it. A machine is opened by
+// `rules::Machine::open`; what else a caller asks of one is passed on from the crates below.
+pub use deadlines::Asked;
+use deadlines::Due;
+use deadlines::deadline;
+pub use deadlines::next_deadline;
+pub use deadlines::well_formed;
+use effects::Effect;
+pub use preview::Items;
+pub use preview::Sendings;
+pub use preview::Signs;
+use preview::sent;
+use rules::Event;
+use rules::Input;
+use rules::Key;
+use rules::Machine;
+use rules::Resting;
+use rules::Settings;
+use rules::Stamp;
+use rules::Thumb;
+use states::act;
+use states::late;
+use waits::at_or_before;
+use waits::before;
+use waits::is_key;
+pub use waits::longest_wait;
+use waits::same_key;
+ghost use mathlib.Core.Path.{_≡_};
+ghost use mathlib.Core.Bool.{true};
+ghost use mathlib.Core.List.{[]};
+ghost use mathlib.Core.Option.{none, some};
+ghost use lib.Dec.{eqb};
+ghost use Rattle.rules.specs.Choice.{if_then_else_};
+ghost use Rattle.rules.specs.States.{is-key, deadline, well-formed};
+ghost use Rattle.rules.specs.OneEvent.{due-by, one-event};
+ghost use Rattle.rules.specs.GivenBack.{input, judge-stamp, judge, refusal, acceptance, step};
+ghost use Rattle.preview.specs.Views.{sending-list};
+ghost use Rattle.effects.specs.Views.{done};
+ghost use Rattle.deadlines.specs.Capped.{deadline-at-most};
+ghost use Rattle.engine.specs.Views.{allowed, judged, stepped};
+
+// What an event gives back: the number, the items committed, what is sent, and the machine.
+pub struct Stepped {
+    pub number: u8,
+    pub items: Items,
+    pub sendings: Sendings,
+    pub machine: Machine,
+}
+
+// An event's kind and key as an input, if they are allowed.
+enum Meaning {
+    None,
+    Some(Input),
+}
+
+// An event is refused with a number, or accepted as an input.
+enum Verdict {
+    Refused(u8),
+    Accepted(Input),
+}
+
+// A character key.
+fn with_character(key: Key, input: Input) -> Meaning
+    ensures { λ r. ⌜ allowed r ≡ (if is-key key then some input else none) ⌝ }
+{
+    if is_key(key) {
+        return Meaning::Some(input);
+    }
+    Meaning::None
+}
+
+// A thumb key: 0 is the left one, 1 the right one.
+fn with_thumb(key: Key, left: Input, right: Input) -> Meaning
+    ensures { λ r. ⌜ allowed r ≡ (if eqb (key .0) 0 then some left else (if eqb (key .0) 1 then some right else none)) ⌝ }
+{
+    if same_key(key, Key(0)) {
+        return Meaning::Some(left);
+    }
+    if same_key(key, Key(1)) {
+        return Meaning::Some(right);
+    }
+    Meaning::None
+}
+
+// No key: its number is 0.
+fn with_none(key: Key, input: Input) -> Meaning
+    ensures { λ r. ⌜ allowed r ≡ (if eqb (key .0) 0 then some input else none) ⌝ }
+{
+    if same_key(key, Key(0)) {
+        return Meaning::Some(input);
+    }
+    Meaning::None
+}
+
+fn meaning_of(kind: u8, key: Key) -> Meaning
+    ensures { λ r. ⌜ allowed r ≡ input kind key ⌝ }
+{
+    match kind {
+        1 => with_character(key, Input::CharacterDown(key)),
+        2 => with_character(key, Input::CharacterUp(key)),
+        3 => with_thumb(
+            key,
+            Input::ThumbDown(Thumb::Left),
+            Input::ThumbDown(Thumb::Right),
+        ),
+        4 => with_thumb(
+            key,
+            Input::ThumbUp(Thumb::Left),
+            Input::ThumbUp(Thumb::Right),
+        ),
+        5 => with_none(key, Input::FunctionDown),
+        6 => with_none(key, Input::Tick),
+        _ => Meaning::None,
+    }
+}
+
+fn judge_stamp(last: Stamp, now: Stamp, input: Input) -> Verdict
+    ensures { λ r. ⌜ judged r ≡ judge-stamp last now input ⌝ }
+{
+    if before(Machine::LARGEST, now) {
+        return Verdict::Refused(4);
+    }
+    if before(now, last) {
+        return Verdict::Refused(5);
+    }
+    Verdict::Accepted(input)
+}
+
+// The checks of an event, in document 01's order.
+fn judge(machine: Machine, event: Event) -> Verdict
+    ensures { λ r. ⌜ judged r ≡ judge machine event ⌝ }
+{
+    if !well_formed(machine) {
+        return Verdict::Refused(2);
+    }
+    let last = machine.last;
+    let key = event.key;
+    let now = event.stamp;
+    match meaning_of(event.kind, key) {
+        Meaning::None => Verdict::Refused(3),
+        Meaning::Some(input) => judge_stamp(last, now, input),
+    }
+}
+
+fn is_due(s: Settings, now: Stamp, resting: Resting) -> bool
+    ensures { λ r. ⌜ r ≡ due-by now (deadline-at-most s resting) ⌝ }
+{
+    match deadline(s, resting) {
+        Due::Never => false,
+        Due::At(stamp) => at_or_before(stamp, now),
+    }
+}
+
+// First what is late, then the event acts. What is late leaves a state that commits nothing, so its items are all.
+fn one_event(s: Settings, now: Stamp, resting: Resting, input: Input) -> Effect
+    requires { ⌜ deadline-at-most s resting ≡ deadline s resting ⌝ }
+    ensures { λ r. ⌜ done r ≡ one-event s now resting input ⌝ }
+{
+    if is_due(s, now, resting) {
+        let first = late(s, resting);
+        let items = first.items;
+        let left = first.resting;
+        let second = act(s, now, left, input);
+        let next = second.resting;
+        return Effect {
+            items: items,
+            resting: next,
+        };
+    }
+    act(s, now, resting, input)
+}
+
+fn accepted(machine: Machine, now: Stamp, input: Input) -> Stepped
+    requires { ⌜ well-formed machine ≡ true ⌝ }
+    ensures { λ r. ⌜ stepped r ≡ acceptance machine now (one-event (machine .settings) now (machine .resting) input) ⌝ }
+{
+    let s = machine.settings;
+    let resting = machine.resting;
+    let effect = one_event(s, now, resting, input);
+    let committed = effect.items;
+    let next = effect.resting;
+    Stepped {
+        number: 0,
+        items: committed,
+        sendings: sent(resting, committed, next),
+        machine: Machine {
+            settings: s,
+            resting: next,
+            last: now,
+        },
+    }
+}
+
+fn nothing_sent() -> Sendings
+    ensures { λ r. ⌜ sending-list r ≡ [] ⌝ }
+{
+    Sendings {
+        backspace: false,
+        signs: Signs {
+            first: 0,
+            second: 0,
+            third: 0,
+        },
+    }
+}
+
+// Nothing committed, nothing sent, the machine as given.
+fn refused(machine: Machine, number: u8) -> Stepped
+    ensures { λ r. ⌜ stepped r ≡ refusal machine number ⌝ }
+{
+    let sendings = nothing_sent();
+    Stepped {
+        number: number,
+        items: Items::None,
+        sendings: sendings,
+        machine: machine,
+    }
+}
+
+// One event of any kind, key and stamp, at any machine.
+pub fn step(machine: Machine, event: Event) -> Stepped
+    ensures { λ r. ⌜ stepped r ≡ step machine event ⌝ }
+{
+    let now = event.stamp;
+    match judge(machine, event) {
+        Verdict::Refused(number) => refused(machine, number),
+        Verdict::Accepted(meant) => accepted(machine, now, meant),
+    }
+}

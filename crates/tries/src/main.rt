@@ -1,0 +1,217 @@
+// Runs the keystrokes of document 01 that are not among the proved ones, and prints what the engine answers: the number, the items
+// that are committed, and what is sent. A backspace is written `<-`, a mark `<L>` or `<R>`, an empty face `-`.
+use engine::Asked;
+use engine::Items;
+use engine::Sendings;
+use libc::STDOUT_FILENO;
+use rules::Event;
+use rules::Item;
+use rules::Key;
+use rules::Machine;
+use rules::Opened;
+use rules::Resting;
+use rules::Settings;
+use rules::Stamp;
+
+fn say(text: &[u8]) {
+    io::write_all(STDOUT_FILENO, text);
+}
+
+fn say_number(n: u64) {
+    io::print_decimal(STDOUT_FILENO, n);
+}
+
+// A sign in UTF-8. Every character of the layout takes three bytes.
+fn say_sign(word: u16) {
+    match word {
+        0 => say(b"-"),
+        1 => say(b"<L>"),
+        2 => say(b"<R>"),
+        _ => {
+            let bytes = [
+                (224 + word / 4096 % 16) as u8,
+                (128 + word / 64 % 64) as u8,
+                (128 + word % 64) as u8,
+            ];
+            say(&bytes);
+        }
+    }
+}
+
+fn say_item(item: Item) {
+    say(b" ");
+    say_sign(preview::word(item));
+}
+
+fn say_items(items: Items) {
+    match items {
+        Items::None => say(b" nothing"),
+        Items::One(item) => say_item(item),
+        Items::Two(item, other) => {
+            say_item(item);
+            say_item(other);
+        }
+    }
+}
+
+fn say_sent(word: u16) {
+    if word != 0 {
+        say(b" ");
+        say_sign(word);
+    }
+}
+
+fn sends_nothing(sent: Sendings) -> bool {
+    let signs = sent.signs;
+    if sent.backspace {
+        return false;
+    }
+    if signs.first != 0 {
+        return false;
+    }
+    if signs.second != 0 {
+        return false;
+    }
+    signs.third == 0
+}
+
+fn say_sendings(sent: Sendings) {
+    if sends_nothing(sent) {
+        say(b" nothing");
+    }
+    if sent.backspace {
+        say(b" <-");
+    }
+    let signs = sent.signs;
+    say_sent(signs.first);
+    say_sent(signs.second);
+    say_sent(signs.third);
+}
+
+fn say_deadline(machine: Machine) {
+    match engine::next_deadline(machine) {
+        Asked::NotWellFormed => say(b"refused 2"),
+        Asked::Never => say(b"none"),
+        Asked::At(stamp) => say_number(stamp.0),
+    }
+}
+
+// One event, with what it gave back on a line; the machine after it.
+fn event(machine: Machine, kind: u8, key: u8, stamp: u64) -> Machine {
+    let answer = engine::step(
+        machine,
+        Event {
+            kind: kind,
+            key: Key(key),
+            stamp: Stamp(stamp),
+        },
+    );
+    let items = answer.items;
+    let sent = answer.sendings;
+    let after = answer.machine;
+    say(b"  kind ");
+    say_number(kind as u64);
+    say(b" key ");
+    say_number(key as u64);
+    say(b" @");
+    say_number(stamp);
+    say(b": ");
+    say_number(answer.number as u64);
+    say(b", commits");
+    say_items(items);
+    say(b", sends");
+    say_sendings(sent);
+    say(b", next ");
+    say_deadline(after);
+    say(b"\n");
+    after
+}
+
+// A machine that is not there is said so, and stands in as one that refuses everything.
+fn open(t: u16, j: u8, l: u8, solo: u8) -> Machine {
+    let settings = Settings {
+        t: t,
+        j: j,
+        l: l,
+        solo: solo,
+    };
+    say(b"T ");
+    say_number(t as u64);
+    say(b", J ");
+    say_number(j as u64);
+    say(b", L ");
+    say_number(l as u64);
+    say(b", solo ");
+    say_number(solo as u64);
+    match Machine::open(settings) {
+        Opened::OutOfRange => {
+            say(b": refused 1\n");
+            Machine {
+                settings: settings,
+                resting: Resting::S1,
+                last: Stamp(0),
+            }
+        }
+        Opened::Ready(machine) => {
+            say(b": opened, longest wait ");
+            let longest = engine::longest_wait(settings);
+            say_number(longest.0);
+            say(b"\n");
+            machine
+        }
+    }
+}
+
+// The bounds of the settings.
+fn settings() {
+    open(49, 50, 50, 0);
+    open(50, 50, 50, 0);
+    open(200, 50, 50, 0);
+    open(201, 50, 50, 0);
+    open(100, 0, 50, 0);
+    open(100, 1, 50, 0);
+    open(100, 99, 50, 0);
+    open(100, 100, 50, 0);
+    open(100, 50, 0, 0);
+    open(100, 50, 1, 0);
+    open(100, 50, 99, 0);
+    open(100, 50, 100, 0);
+    open(100, 50, 50, 1);
+    open(100, 50, 50, 2);
+    open(200, 99, 99, 1);
+}
+
+// Keys and stamps that pass and that are refused; an event that is refused changes nothing.
+fn refusals() {
+    let m = open(100, 50, 50, 0);
+    let m = event(m, 1, 30, 0);
+    let m = event(m, 1, 31, 0);
+    let m = event(m, 1, 21, 1_000_000_000_000);
+    let m = event(m, 6, 0, 1_000_000_000_001);
+    let m = event(m, 6, 0, 1_000_000_000_000);
+    let m = event(m, 6, 0, 999_999_999_999);
+    let m = event(m, 1, 31, 999_999_999_999);
+    let m = event(m, 0, 0, 1_000_000_000_000);
+    let m = event(m, 7, 0, 1_000_000_000_000);
+    let m = event(m, 3, 2, 1_000_000_000_000);
+    event(m, 6, 1, 1_000_000_000_000);
+    let out = open(49, 50, 50, 0);
+    event(out, 1, 21, 0);
+}
+
+// 21@0, R@100, tick 200: the deadline at 100 comes before the thumb.
+fn late_first() {
+    let m = open(100, 50, 50, 0);
+    let m = event(m, 1, 21, 0);
+    let m = event(m, 3, 1, 100);
+    event(m, 6, 0, 200);
+}
+
+fn main() {
+    say(
+        b"Kinds: 1 character down, 2 up, 3 thumb down, 4 up, 5 function, 6 tick. Thumbs: 0 left, 1 right.\n",
+    );
+    settings();
+    refusals();
+    late_first();
+}
