@@ -44,7 +44,8 @@ module _ (s : Settings) (held : Held s) (last : Stamp) (top : last .0 ≤ larges
       let h : r .0 ≤ largest-stamp = at-most r (second (at-or-before o last && at-or-before m last) (at-or-before r last) e) in
       rw (later-fits r (lag m r) (omega arith))
 
-pub well-formed-deadline : (x : Machine) → well-formed x ≡ true → deadline-at-most (x .settings) (x .resting) ≡ deadline (x .settings) (x .resting)
+pub well-formed-deadline : (x : Machine) → well-formed x ≡ true
+    → deadline-at-most (x .settings) (x .resting) ≡ deadline (x .settings) (x .resting)
 unfolding well-formed
 well-formed-deadline x e =
     let R = in-range (x .settings) in

@@ -22,7 +22,8 @@ use waits::short_overlap;
 ghost use mathlib.Core.Path.{_≡_};
 ghost use Rattle.rules.specs.Choice.{if_then_else_};
 ghost use Rattle.rules.specs.States.{lag};
-ghost use Rattle.rules.specs.OneEvent.{_leaving_, nothing, mark, plain, chord, second-thumb-takes-character, short-overlap, late, in-S1, in-S2, in-S3, in-S4, in-S5, in-S6, act};
+ghost use Rattle.rules.specs.OneEvent.{_leaving_, nothing, mark, plain, chord, second-thumb-takes-character, short-overlap};
+ghost use Rattle.rules.specs.OneEvent.{late, in-S1, in-S2, in-S3, in-S4, in-S5, in-S6, act};
 ghost use Rattle.rules.specs.declared.Resting.the-variants.{S1, S3, S4, S6};
 ghost use Rattle.effects.specs.Views.{done};
 
@@ -100,7 +101,8 @@ fn in_s3(s: Settings, now: Stamp, thumb: Thumb, o: Stamp, input: Input) -> Effec
 
 // S4, M is released: the overlap decides whether O was meant for M.
 fn key_up_in_s4(s: Settings, now: Stamp, key: Key, m: Stamp, thumb: Thumb, o: Stamp) -> Effect
-    ensures { λ r. ⌜ done r ≡ (if short-overlap (s .j) (lag m o) (lag o now) then (plain key leaving S3 thumb o) else (chord key thumb leaving S1)) ⌝ }
+    ensures { λ r. ⌜ done r ≡
+        (if short-overlap (s .j) (lag m o) (lag o now) then (plain key leaving S3 thumb o) else (chord key thumb leaving S1)) ⌝ }
 {
     if short_overlap(s.j, lag(m, o), lag(o, now)) {
         return commits_plain(key, Resting::S3(thumb, o));
@@ -164,7 +166,9 @@ fn thumb_down_in_s5(
     m: Stamp,
     p: Thumb,
 ) -> Effect
-    ensures { λ r. ⌜ done r ≡ (if second-thumb-takes-character (lag o m) (lag m now) then (mark s thumb leaving S4 key m p now) else (chord key thumb leaving S3 p now)) ⌝ }
+    ensures { λ r. ⌜ done r ≡
+        (if second-thumb-takes-character (lag o m) (lag m now) then (mark s thumb leaving S4 key m p now)
+        else (chord key thumb leaving S3 p now)) ⌝ }
 {
     if second_thumb_takes_character(lag(o, m), lag(m, now)) {
         return commits_mark(s, thumb, Resting::S4(key, m, p, now));
@@ -174,7 +178,8 @@ fn thumb_down_in_s5(
 
 // S5, O is released: the overlap decides whether it may still turn out that O was not meant for M.
 fn thumb_up_in_s5(s: Settings, now: Stamp, thumb: Thumb, o: Stamp, key: Key, m: Stamp) -> Effect
-    ensures { λ r. ⌜ done r ≡ (if short-overlap (s .l) (lag o m) (lag m now) then (nothing leaving S6 thumb o key m now) else (chord key thumb leaving S1)) ⌝ }
+    ensures { λ r. ⌜ done r ≡
+        (if short-overlap (s .l) (lag o m) (lag m now) then (nothing leaving S6 thumb o key m now) else (chord key thumb leaving S1)) ⌝ }
 {
     if short_overlap(s.l, lag(o, m), lag(m, now)) {
         return goes_to(Resting::S6(thumb, o, key, m, now));

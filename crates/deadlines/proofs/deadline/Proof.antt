@@ -30,8 +30,28 @@ deadline-spec =
     (λ c κs. tt)
     (λ c. rw (c .enum-told .given .1))
     (λ c. rw (c .before .before .before .resting .given .1, ← c .before .character-wait .ensures, ← c .later .ensures))
-    (λ c. rw (c .before .before .before .before .before .resting2 .given .1, eq-eqb _ 1 (c .before .before .if1 .taken), ← c .before .thumb-wait .ensures, ← c .later2 .ensures))
+    (λ c.
+    rw (
+      c .before .before .before .before .before .resting2 .given .1,
+      eq-eqb _ 1 (c .before .before .if1 .taken),
+      ← c .before .thumb-wait .ensures,
+      ← c .later2 .ensures,
+    ))
     (λ c. rw (c .before .before .before .resting2 .given .1, ne-eqb _ 1 (c .if1 .left)))
-    (λ c. rw (c .before .before .before .before .resting3 .given .1, ← c .before .before .lag .ensures, ← c .before .character-first-wait .ensures, ← c .later3 .ensures))
-    (λ c. rw (c .before .before .before .before .before .before .resting4 .given .1, ← c .before .before .before .before .lag2 .ensures, ← c .before .before .before .thumb-wait2 .ensures, ← c .before .before .shorter .ensures, ← c .before .thumb-first-wait .ensures, ← c .later4 .ensures))
+    (λ c.
+    rw (
+      c .before .before .before .before .resting3 .given .1,
+      ← c .before .before .lag .ensures,
+      ← c .before .character-first-wait .ensures,
+      ← c .later3 .ensures,
+    ))
+    (λ c.
+    rw (
+      c .before .before .before .before .before .before .resting4 .given .1,
+      ← c .before .before .before .before .lag2 .ensures,
+      ← c .before .before .before .thumb-wait2 .ensures,
+      ← c .before .before .shorter .ensures,
+      ← c .before .thumb-first-wait .ensures,
+      ← c .later4 .ensures,
+    ))
     (λ c. rw (c .before .before .before .resting5 .given .1, ← c .before .lag3 .ensures, ← c .later5 .ensures)))

@@ -22,5 +22,11 @@ in-order-spec =
     (λ c. rw (c .enum-told3 .given .1))
     (λ c. rw (c .before .before .resting .given .1, ← c .at-or-before .ensures))
     (λ c. rw (c .before .before .resting2 .given .1, ← c .at-or-before2 .ensures))
-    (λ c. rw (c .before .before .before .before .resting3 .given .1, ← c .before .before .at-or-before3 .ensures, c .before .if1 .taken, ← c .at-or-before4 .ensures))
+    (λ c.
+    rw (
+      c .before .before .before .before .resting3 .given .1,
+      ← c .before .before .at-or-before3 .ensures,
+      c .before .if1 .taken,
+      ← c .at-or-before4 .ensures,
+    ))
     (λ c. rw (c .before .before .before .resting3 .given .1, ← c .before .at-or-before3 .ensures, c .if1 .left)))

@@ -12,4 +12,9 @@ is-due-spec =
     (λ c. search needs)
     (λ c κs. tt)
     (λ c. rw (← c .before .before .deadline .ensures, c .enum-told .given .1))
-    (λ c. rw (← c .before .before .before .before .deadline .ensures, c .before .before .stamp .given .1, ← c .at-or-before .ensures)))
+    (λ c.
+    rw (
+      ← c .before .before .before .before .deadline .ensures,
+      c .before .before .stamp .given .1,
+      ← c .at-or-before .ensures,
+    )))

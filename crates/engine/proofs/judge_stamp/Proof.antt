@@ -9,5 +9,17 @@ judge-stamp-spec =
     (λ c κs. tt)
     (λ c. rw (← c .before .before2 .ensures, c .if1 .taken))
     (λ c κs. tt)
-    (λ c. rw (← c .before .before .before .before2 .ensures, c .before .before .if1 .left, ← c .before .before3 .ensures, c .if2 .taken))
-    (λ c. rw (← c .before .before .before .before2 .ensures, c .before .before .if1 .left, ← c .before .before3 .ensures, c .if2 .left)))
+    (λ c.
+    rw (
+      ← c .before .before .before .before2 .ensures,
+      c .before .before .if1 .left,
+      ← c .before .before3 .ensures,
+      c .if2 .taken,
+    ))
+    (λ c.
+    rw (
+      ← c .before .before .before .before2 .ensures,
+      c .before .before .if1 .left,
+      ← c .before .before3 .ensures,
+      c .if2 .left,
+    )))

@@ -11,5 +11,17 @@ with-thumb-spec =
     (λ c κs. tt)
     (λ c. rw (← c .before .same-key .ensures, c .if1 .taken))
     (λ c κs. tt)
-    (λ c. rw (← c .before .before .before .same-key .ensures, c .before .before .if1 .left, ← c .before .same-key2 .ensures, c .if2 .taken))
-    (λ c. rw (← c .before .before .before .same-key .ensures, c .before .before .if1 .left, ← c .before .same-key2 .ensures, c .if2 .left)))
+    (λ c.
+    rw (
+      ← c .before .before .before .same-key .ensures,
+      c .before .before .if1 .left,
+      ← c .before .same-key2 .ensures,
+      c .if2 .taken,
+    ))
+    (λ c.
+    rw (
+      ← c .before .before .before .same-key .ensures,
+      c .before .before .if1 .left,
+      ← c .before .same-key2 .ensures,
+      c .if2 .left,
+    )))

@@ -19,4 +19,5 @@ code-point-spec =
     (λ c. rw (c .column .ensures) (omega (arith, column-below (c .before .before .before .args .face))))
     (λ c. search needs)
     (λ c. rw (c .column .ensures) (column-below (c .before .before .before .args .face)))
-    (λ c. rw (c .before .column .ensures) (read (c .before .before .before .before .args .key) (c .before .before .before .before .args .face))))
+    (λ c.
+    rw (c .before .column .ensures) (read (c .before .before .before .before .args .key) (c .before .before .before .before .args .face))))

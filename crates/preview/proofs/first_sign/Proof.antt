@@ -11,4 +11,5 @@ first-sign-spec =
     (tie.spec
     (λ c. search (ne-eqb, needs))
     (λ c. search (eq-eqb, ne-eqb, needs))
-    (λ c. rw (eq-eqb _ 0 (c .before .before .if1 .left), eq-eqb _ 0 (c .if2 .left)) (first-alone (c .before .before .before .before .args .q .third))))
+    (λ c.
+    rw (eq-eqb _ 0 (c .before .before .if1 .left), eq-eqb _ 0 (c .if2 .left)) (first-alone (c .before .before .before .before .args .q .third))))

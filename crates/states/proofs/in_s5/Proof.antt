@@ -26,11 +26,47 @@ in-s5-spec =
     (λ c. search needs)
     (λ c κs. tt)
     (λ c. rw (c .before .before .input .given .1, ← c .commits-chord .ensures))
-    (λ c. rw (c .before .before .before .before .input2 .given .1, ← c .before .before .same-key .ensures, c .before .if1 .taken, ← c .commits-chord2 .ensures))
-    (λ c. rw (c .before .before .before .before .input2 .given .1, ← c .before .before .same-key .ensures, c .before .if1 .left, ← c .goes-to .ensures))
-    (λ c. rw (c .before .before .before .before .input3 .given .1, ← c .before .before .same-thumb .ensures, c .before .if2 .taken, ← c .goes-to2 .ensures))
-    (λ c. rw (c .before .before .before .before .input3 .given .1, ← c .before .before .same-thumb .ensures, c .before .if2 .left, ← c .thumb-down-in-s5 .ensures))
-    (λ c. rw (c .before .before .before .before .input4 .given .1, ← c .before .before .same-thumb2 .ensures, c .before .if3 .taken, ← c .thumb-up-in-s5 .ensures))
-    (λ c. rw (c .before .before .before .before .input4 .given .1, ← c .before .before .same-thumb2 .ensures, c .before .if3 .left, ← c .goes-to3 .ensures))
+    (λ c.
+    rw (
+      c .before .before .before .before .input2 .given .1,
+      ← c .before .before .same-key .ensures,
+      c .before .if1 .taken,
+      ← c .commits-chord2 .ensures,
+    ))
+    (λ c.
+    rw (
+      c .before .before .before .before .input2 .given .1,
+      ← c .before .before .same-key .ensures,
+      c .before .if1 .left,
+      ← c .goes-to .ensures,
+    ))
+    (λ c.
+    rw (
+      c .before .before .before .before .input3 .given .1,
+      ← c .before .before .same-thumb .ensures,
+      c .before .if2 .taken,
+      ← c .goes-to2 .ensures,
+    ))
+    (λ c.
+    rw (
+      c .before .before .before .before .input3 .given .1,
+      ← c .before .before .same-thumb .ensures,
+      c .before .if2 .left,
+      ← c .thumb-down-in-s5 .ensures,
+    ))
+    (λ c.
+    rw (
+      c .before .before .before .before .input4 .given .1,
+      ← c .before .before .same-thumb2 .ensures,
+      c .before .if3 .taken,
+      ← c .thumb-up-in-s5 .ensures,
+    ))
+    (λ c.
+    rw (
+      c .before .before .before .before .input4 .given .1,
+      ← c .before .before .same-thumb2 .ensures,
+      c .before .if3 .left,
+      ← c .goes-to3 .ensures,
+    ))
     (λ c. rw (c .before .enum-told .given .1, ← c .commits-chord3 .ensures))
     (λ c. rw (c .before .enum-told2 .given .1, ← c .goes-to4 .ensures)))

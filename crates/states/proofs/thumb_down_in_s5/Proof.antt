@@ -10,6 +10,20 @@ thumb-down-in-s5-spec =
     (λ c κs. tt)
     (λ c κs. tt)
     (λ c κs. tt)
-    (λ c. rw (← c .before .before .before .before .lag .ensures, ← c .before .before .before .lag2 .ensures, ← c .before .before .second-thumb-takes-character .ensures, c .before .if1 .taken, ← c .commits-mark .ensures))
+    (λ c.
+    rw (
+      ← c .before .before .before .before .lag .ensures,
+      ← c .before .before .before .lag2 .ensures,
+      ← c .before .before .second-thumb-takes-character .ensures,
+      c .before .if1 .taken,
+      ← c .commits-mark .ensures,
+    ))
     (λ c κs. tt)
-    (λ c. rw (← c .before .before .before .before .lag .ensures, ← c .before .before .before .lag2 .ensures, ← c .before .before .second-thumb-takes-character .ensures, c .before .if1 .left, ← c .commits-chord .ensures)))
+    (λ c.
+    rw (
+      ← c .before .before .before .before .lag .ensures,
+      ← c .before .before .before .lag2 .ensures,
+      ← c .before .before .second-thumb-takes-character .ensures,
+      c .before .if1 .left,
+      ← c .commits-chord .ensures,
+    )))

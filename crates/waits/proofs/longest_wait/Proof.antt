@@ -8,13 +8,16 @@ use Rattle.waits.proofs.longest_wait.Statement.{statement}
 use Rattle.waits.proofs.longest_wait.Tie as tie
 
 module _ (c : tie.After-struct-known2) where
-  held : Held (c .before .before .before .before .before .args .s)
+  abbrev first : tie.After-first-wait
+  first = c .before .before .before .before
+
+  held : Held (first .before .args .s)
   held = record { t = search needs; j = search needs; l = search needs }
 
-  sum : c .before .before .before .before .first-wait .result .0 + c .before .before .longer .result .0 ≡ W (c .before .before .before .before .before .args .s)
+  sum : first .first-wait .result .0 + c .before .before .longer .result .0 ≡ W (first .before .args .s)
   sum =
       W-at-most _ _ _ _ held
-      (c .before .before .before .before .first-wait .ensures)
+      (first .first-wait .ensures)
       (c .before .before .before .character-first-wait .ensures)
       (c .before .before .longer .ensures)
 

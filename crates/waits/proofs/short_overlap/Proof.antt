@@ -13,5 +13,8 @@ short-overlap-spec =
     (λ c. search needs)
     (λ c κs. search needs)
     (λ c. rw (c .bounded .ensures) (omega (arith, lag-bound (c .before .before .before .args .a .0))))
-    (λ c. rw (c .bounded .ensures) (omega (arith, overlap-product (c .before .before .before .fits .percent .fits) (lag-bound (c .before .before .before .args .a .0)) (c .before .if1 .left))))
+    (λ c.
+    let a = c .before .before .before in
+    rw (c .bounded .ensures)
+    (omega (arith, overlap-product (a .fits .percent .fits) (lag-bound (a .args .a .0)) (c .before .if1 .left))))
     (λ c. rw (c .bounded .ensures) (short-at-most _ _ _ (c .before .if1 .left))))
