@@ -1,0 +1,11 @@
+use borrow.Author.Needs.{needs}
+use Rattle.host.proofs.trabeculon_read_log.Statement.{statement}
+use Rattle.host.proofs.trabeculon_read_log.Tie as tie
+
+pub trabeculon-read-log-spec : {M : Type 1} → statement M
+trabeculon-read-log-spec =
+    tie.close
+    (tie.spec
+    (λ c κs. search needs)
+    (λ c. c .before .before .read-packed .kept .1 .0)
+    (λ c. c .before .before .read-packed .ensures))

@@ -1,0 +1,4 @@
+pub mod Copying
+pub mod Places
+pub mod Statuses
+pub mod Reporting
