@@ -1,0 +1,131 @@
+/*
+ * Reads logs through include/trabeculon.h as a C host would, and checks the
+ * answer, the words, and that the rest of the buffer is untouched. Prints one
+ * line per check; exits 1 if one failed.
+ */
+#include "trabeculon.h"
+
+#include <stdio.h>
+#include <string.h>
+
+#define LOG_LEN 138
+#define BUFFER_LEN 64
+#define RUN_START 16
+#define UNTOUCHED 0xA5
+
+/* The example of document 01; its whole line is sa-i-ga-i. */
+static const uint8_t EXAMPLE[LOG_LEN] = {
+    1, 0, 5,  0, 100, 50, 50, 0,                 /* T=100, J=L=50, solo 0 */
+    2, 0, 10, 1, 24, 0, 0, 0, 0, 0, 0, 0, 0,     /* at   8: 24 down @0 */
+    2, 0, 10, 2, 24, 0, 0, 0, 0, 0, 0, 0, 60,    /* at  21: 24 up @60 */
+    2, 0, 10, 1, 18, 0, 0, 0, 0, 0, 0, 0, 100,   /* at  34: 18 down @100 */
+    2, 0, 10, 2, 18, 0, 0, 0, 0, 0, 0, 0, 150,   /* at  47: 18 up @150 */
+    2, 0, 10, 1, 21, 0, 0, 0, 0, 0, 0, 0, 200,   /* at  60: 21 down @200 */
+    2, 0, 10, 3, 1, 0, 0, 0, 0, 0, 0, 0, 230,    /* at  73: right thumb down @230 */
+    2, 0, 10, 2, 21, 0, 0, 0, 0, 0, 0, 1, 14,    /* at  86: 21 up @270 */
+    2, 0, 10, 4, 1, 0, 0, 0, 0, 0, 0, 1, 24,     /* at  99: right thumb up @280 */
+    2, 0, 10, 1, 18, 0, 0, 0, 0, 0, 0, 1, 44,    /* at 112: 18 down @300 */
+    2, 0, 10, 6, 0, 0, 0, 0, 0, 0, 0, 1, 144,    /* at 125: tick @400 */
+};
+
+/* Its words: U+3055, U+3044, U+304C, U+3044. */
+static const uint8_t WORDS[8] = {0x30, 0x55, 0x30, 0x44, 0x30, 0x4C, 0x30, 0x44};
+
+/* A right mark and U+304B, both committed by the last record. */
+static const uint8_t TWO_AT_ONCE[60] = {
+    1, 0, 5,  0, 100, 50, 50, 1,                 /* T=100, J=L=50, solo 1 */
+    2, 0, 10, 3, 1, 0, 0, 0, 0, 0, 0, 0, 0,      /* at   8: right thumb down @0 */
+    2, 0, 10, 1, 21, 0, 0, 0, 0, 0, 0, 0, 40,    /* at  21: 21 down @40 */
+    2, 0, 10, 4, 1, 0, 0, 0, 0, 0, 0, 0, 60,     /* at  34: right thumb up @60 */
+    2, 0, 10, 6, 0, 0, 0, 0, 0, 0, 0, 0, 80,     /* at  47: tick @80 */
+};
+static const uint8_t TWO_WORDS[4] = {0x00, 0x02, 0x30, 0x4B};
+
+_Static_assert(sizeof(trabeculon_answer) == 24, "the answer has no padding");
+
+static int failures = 0;
+
+static void report(const char *name, const char *what, int ok) {
+    printf("%s: %s, %s\n", ok ? "ok" : "FAILED", name, what);
+    if (!ok) {
+        failures++;
+    }
+}
+
+static int same_answer(trabeculon_answer got, trabeculon_answer want) {
+    return got.number == want.number && got.waiting == want.waiting
+        && got.words == want.words && got.offset == want.offset;
+}
+
+static int all_untouched(const uint8_t *bytes, size_t length) {
+    for (size_t i = 0; i < length; i++) {
+        if (bytes[i] != UNTOUCHED) {
+            return 0;
+        }
+    }
+    return 1;
+}
+
+/* Reads a log into a run inside a larger buffer and checks all of the buffer. */
+static void check_log(const char *name, const uint8_t *log, size_t log_len,
+                      const uint8_t *words, size_t run_len, trabeculon_answer want) {
+    uint8_t buffer[BUFFER_LEN];
+    uint8_t *run = buffer + RUN_START;
+    size_t written = 2 * (size_t)want.words;
+    memset(buffer, UNTOUCHED, sizeof buffer);
+
+    trabeculon_answer got = trabeculon_read_log(log, log_len, run, run_len);
+
+    report(name, "answer", same_answer(got, want));
+    report(name, "words", memcmp(run, words, written) == 0);
+    report(name, "rest untouched",
+           all_untouched(buffer, RUN_START)
+               && all_untouched(run + written, BUFFER_LEN - RUN_START - written));
+}
+
+/* The first bytes of the example. */
+static void check(const char *name, size_t log_len, size_t run_len, trabeculon_answer want) {
+    check_log(name, EXAMPLE, log_len, WORDS, run_len, want);
+}
+
+/* The log whose last record gives two words. */
+static void check_two(const char *name, size_t run_len, trabeculon_answer want) {
+    check_log(name, TWO_AT_ONCE, sizeof TWO_AT_ONCE, TWO_WORDS, run_len, want);
+}
+
+/* The example with one byte changed. */
+static void check_damaged(const char *name, size_t place, uint8_t value,
+                          trabeculon_answer want) {
+    uint8_t log[LOG_LEN];
+    memcpy(log, EXAMPLE, LOG_LEN);
+    log[place] = value;
+    check_log(name, log, LOG_LEN, WORDS, 32, want);
+}
+
+static trabeculon_answer answer(uint32_t number, uint64_t words, uint64_t offset,
+                                uint32_t waiting) {
+    trabeculon_answer a = {number, waiting, words, offset};
+    return a;
+}
+
+int main(void) {
+    check("whole log", LOG_LEN, 32, answer(0, 4, 138, 0));
+    check("run just long enough", LOG_LEN, 8, answer(0, 4, 138, 0));
+    check("run of odd length", LOG_LEN, 9, answer(0, 4, 138, 0));
+    check("run too short", LOG_LEN, 4, answer(8, 2, 86, 1));
+    check("run too short, odd", LOG_LEN, 7, answer(8, 3, 125, 1));
+    check("run of one byte", LOG_LEN, 1, answer(8, 0, 21, 1));
+    check("run of no bytes", LOG_LEN, 0, answer(8, 0, 21, 1));
+    check("empty log", 0, 32, answer(6, 0, 0, 0));
+    check("log cut in a body", 98, 32, answer(6, 2, 86, 1));
+    check_two("two words at once", 5, answer(0, 2, 60, 0));
+    check_two("room for one of two words", 3, answer(8, 0, 47, 1));
+    check_damaged("tag damaged", 73, 9, answer(7, 2, 73, 1));
+    check_damaged("length damaged", 75, 11, answer(7, 2, 73, 1));
+    check_damaged("settings damaged", 4, 49, answer(1, 0, 0, 0));
+    check_damaged("key damaged", 77, 2, answer(3, 2, 73, 1));
+    check_damaged("stamp too large", 78, 1, answer(4, 2, 73, 1));
+    check_damaged("stamp too early", 85, 199, answer(5, 2, 73, 1));
+    printf("%d failed\n", failures);
+    return failures == 0 ? 0 : 1;
+}

@@ -1,0 +1,132 @@
+//! Makes the files of examples/ byte for byte: `make_examples FOLDER`. Each
+//! example is a log, a text that says what was typed, and what `play` prints.
+//! What is printed stands here as text and is checked against the model.
+
+use std::io::{Error, Result};
+use std::path::Path;
+use std::process::ExitCode;
+
+use trabeculon_model::log::{log_of, play};
+use trabeculon_model::notation::events;
+
+struct Example {
+    name: &'static str,
+    keystrokes: &'static str,
+    /// Place and value of a damaged byte.
+    damage: Option<(usize, u8)>,
+    text: &'static str,
+    expected: &'static str,
+}
+
+/// T, J, L, solo of all examples.
+const SETTINGS: (u16, u8, u8, u8) = (100, 50, 50, 0);
+
+const EXAMPLES: [Example; 3] = [
+    Example {
+        name: "saigai",
+        keystrokes: "24@0 24up@60 18@100 18up@150 21@200 R@230 21up@270 Rup@280 18@300 tick@400",
+        damage: None,
+        text: "\
+The log of document 01: 138 bytes, T=100, J=L=50, solo 0.
+
+   at  stamp  typed                what happens
+    0         settings
+    8      0  key 24 (さ) down     さ waits
+   21     60  key 24 up            さ is committed
+   34    100  key 18 (い) down     い waits
+   47    150  key 18 up            い is committed
+   60    200  key 21 (か) down     か waits
+   73    230  right thumb down     か and the thumb wait until 260
+   86    270  key 21 up            late: the chord が is committed first
+   99    280  right thumb up
+  112    300  key 18 (い) down     い waits until 400
+  125    400  tick                 late: い is committed
+
+play prints さいがい, and nothing waits.
+",
+        expected: "さいがい\nwaiting 0\n",
+    },
+    Example {
+        name: "saikai",
+        keystrokes: "24@0 24up@60 18@100 18up@150 21@200 R@230 21up@250 Rup@280 18@300 tick@400",
+        damage: None,
+        text: "\
+The log of saigai with key 21 released 20 ms earlier: 138 bytes, T=100, J=L=50,
+solo 0.
+
+   at  stamp  typed                what happens
+    0         settings
+    8      0  key 24 (さ) down     さ waits
+   21     60  key 24 up            さ is committed
+   34    100  key 18 (い) down     い waits
+   47    150  key 18 up            い is committed
+   60    200  key 21 (か) down     か waits
+   73    230  right thumb down     か and the thumb wait until 260
+   86    250  key 21 up            20 ms of overlap after 30 ms alone: か is
+                                   committed plain, the thumb stays
+   99    280  right thumb up       no mark, since solo is 0
+  112    300  key 18 (い) down     い waits until 400
+  125    400  tick                 late: い is committed
+
+play prints さいかい, and nothing waits.
+",
+        expected: "さいかい\nwaiting 0\n",
+    },
+    Example {
+        name: "damaged",
+        keystrokes: "24@0 24up@60 18@100 18up@150 21@200 R@230 21up@270 Rup@280 18@300 tick@400",
+        damage: Some((73, 9)),
+        text: "\
+The log of saigai with one byte damaged: the tag of the record at offset 73 (the
+right thumb's press) is 9, which is no tag. 138 bytes, T=100, J=L=50, solo 0.
+
+   at  stamp  typed                what happens
+    0         settings
+    8      0  key 24 (さ) down     さ waits
+   21     60  key 24 up            さ is committed
+   34    100  key 18 (い) down     い waits
+   47    150  key 18 up            い is committed
+   60    200  key 21 (か) down     か waits
+   73         damaged              refused 7; the rest is not read
+
+play prints さい, which was committed before the damage, and where it is.
+",
+        expected: "さい\nrefused 7 at 73\n",
+    },
+];
+
+fn main() -> ExitCode {
+    let Some(folder) = std::env::args().nth(1) else {
+        eprintln!("usage: make_examples FOLDER");
+        return ExitCode::from(2);
+    };
+    match EXAMPLES.iter().try_for_each(|example| make(Path::new(&folder), example)) {
+        Ok(()) => ExitCode::SUCCESS,
+        Err(error) => {
+            eprintln!("{error}");
+            ExitCode::FAILURE
+        }
+    }
+}
+
+/// Writes the three files of one example.
+fn make(folder: &Path, example: &Example) -> Result<()> {
+    let log = log(example).ok_or(Error::other("can't read the keystrokes"))?;
+    if play(&log) != example.expected {
+        return Err(Error::other(format!("{}: the model prints {}", example.name, play(&log))));
+    }
+    let write = |ending: &str, bytes: &[u8]| {
+        std::fs::write(folder.join(format!("{}.{ending}", example.name)), bytes)
+    };
+    write("log", &log)?;
+    write("txt", example.text.as_bytes())?;
+    write("expected", example.expected.as_bytes())
+}
+
+fn log(example: &Example) -> Option<Vec<u8>> {
+    let mut log = log_of(SETTINGS, &events(example.keystrokes)?);
+    if let Some((place, value)) = example.damage {
+        *log.get_mut(place)? = value;
+    }
+    Some(log)
+}

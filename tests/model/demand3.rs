@@ -1,0 +1,174 @@
+//! Demand 3 of the model, tried on sequences of events: the five sentences with
+//! the words that document 01 gives them, checked after every event.
+
+use crate::generate::{next_stamp, random_events};
+use crate::model::{
+    shown, sign, step, Event, Item, Machine, Sending, Settings, Sign, Step, LARGEST_STAMP,
+};
+use crate::random::Random;
+
+/// A sequence so far: the machine and all that came of it.
+struct Run {
+    machine: Machine,
+    /// Key and stamp of every accepted press.
+    presses: Vec<(u8, u64)>,
+    items: Vec<Item>,
+    line: Vec<Sign>,
+    screen: Vec<Sign>,
+}
+
+impl Run {
+    fn new(settings: Settings) -> Run {
+        let machine = Machine::fresh(settings);
+        Run { machine, presses: vec![], items: vec![], line: vec![], screen: vec![] }
+    }
+
+    /// Takes one event and checks all that must hold then.
+    fn take(&mut self, event: Event) -> Result<(), String> {
+        match step(&self.machine, event) {
+            Err(number) => expect((3..=5).contains(&number), "a run is refused 3, 4 or 5 only")?,
+            Ok(step) => self.add(event, step)?,
+        }
+        self.keys_in_order()?;
+        self.within_longest_wait()?;
+        let seen = [&self.line[..], shown(&self.machine.resting).as_slice()].concat();
+        expect(self.screen == seen, "the screen is the line and what is shown")
+    }
+
+    fn add(&mut self, event: Event, step: Step) -> Result<(), String> {
+        expect(step.items.len() <= 2, "a step commits 0 to 2")?;
+        expect(step.sendings.len() <= 4, "at most 4 sendings a step")?;
+        expect(step.machine.well_formed(), "a step leaves a well-formed state")?;
+        self.send(&step.sendings)?;
+        if event.kind == 1 {
+            self.presses.push((event.key, event.stamp));
+        }
+        self.line.extend(step.items.iter().filter_map(sign));
+        self.items.extend(step.items);
+        self.machine = step.machine;
+        Ok(())
+    }
+
+    /// Sends to the screen; the line is still the one before the event.
+    fn send(&mut self, sendings: &[Sending]) -> Result<(), String> {
+        let mut sent = false;
+        for sending in sendings {
+            match sending {
+                Sending::Sign(sign) => {
+                    self.screen.push(*sign);
+                    sent = true;
+                }
+                Sending::Backspace => {
+                    self.screen.pop();
+                    let kept = self.screen.starts_with(&self.line) && !sent;
+                    expect(kept, "no backspace takes a committed character")?;
+                }
+            }
+        }
+        Ok(())
+    }
+
+    /// Keys of the committed characters.
+    fn committed(&self) -> impl Iterator<Item = u8> + '_ {
+        self.items.iter().filter_map(|item| match item {
+            Item::Character { key, .. } => Some(*key),
+            Item::Mark(_) => None,
+        })
+    }
+
+    fn keys_in_order(&self) -> Result<(), String> {
+        let pressed = self.presses.iter().map(|(key, _)| *key);
+        let answered = self.committed().chain(self.machine.waiting());
+        expect(pressed.eq(answered), "keys are committed or wait in the order of presses")
+    }
+
+    fn within_longest_wait(&self) -> Result<(), String> {
+        let w = self.machine.settings.longest_wait();
+        let unanswered = self.presses.iter().skip(self.committed().count());
+        let in_time = unanswered.into_iter().all(|(_, stamp)| self.machine.last < stamp + w);
+        expect(in_time, "a press is committed within W")
+    }
+}
+
+fn expect(holds: bool, what: &str) -> Result<(), String> {
+    if holds {
+        Ok(())
+    } else {
+        Err(what.to_string())
+    }
+}
+
+/// One random sequence: every sentence after every event, and the ticks.
+pub fn check_random(random: &mut Random, settings: Settings) -> Result<(), String> {
+    let count = random.place(40);
+    let events = random_events(random, Machine::fresh(settings), count, true);
+    let all = check(settings, &events)?;
+    check_ticks(random, settings, &events).map_err(|what| format!("{what}: {events:?}"))?;
+    expect(all.machine.last <= LARGEST_STAMP, "the last stamp is at most the largest")
+}
+
+/// Every sentence but that about ticks, over one sequence.
+fn check(settings: Settings, events: &[Event]) -> Result<Run, String> {
+    let mut run = Run::new(settings);
+    for event in events {
+        run.take(*event).map_err(|what| format!("{what}: {events:?}"))?;
+    }
+    Ok(run)
+}
+
+/// Ticks do not matter: the same key events with no tick, with many ticks and
+/// with refused events between, all ended by the same tick, commit the same.
+fn check_ticks(random: &mut Random, settings: Settings, events: &[Event]) -> Result<(), String> {
+    let keys = accepted_keys(settings, events);
+    let last = keys.last().map_or(0, |event| event.stamp);
+    let stamps = [last, last + random.below(400), last + 40_000];
+    let end = tick(random.pick(&stamps).min(LARGEST_STAMP));
+    let bare = [&keys[..], &[end]].concat();
+    let full = with_ticks(random, settings, &bare);
+    let same = check(settings, &bare)?.items == check(settings, &full)?.items;
+    expect(same, "ticks do not matter")
+}
+
+fn tick(stamp: u64) -> Event {
+    Event { kind: 6, key: 0, stamp }
+}
+
+/// The accepted key events of a sequence.
+fn accepted_keys(settings: Settings, events: &[Event]) -> Vec<Event> {
+    let mut machine = Machine::fresh(settings);
+    let mut keys = vec![];
+    for event in events {
+        if let Ok(step) = step(&machine, *event) {
+            machine = step.machine;
+            if event.kind <= 5 {
+                keys.push(*event);
+            }
+        }
+    }
+    keys
+}
+
+/// The same events with ticks and refused events put between them.
+fn with_ticks(random: &mut Random, settings: Settings, events: &[Event]) -> Vec<Event> {
+    let mut machine = Machine::fresh(settings);
+    let mut full = vec![];
+    for event in events {
+        for _ in 0..random.below(4) {
+            let extra = match random.below(4) {
+                0 => Event { kind: 1, key: 31, stamp: event.stamp },
+                _ => tick(next_stamp(random, &machine).min(event.stamp)),
+            };
+            push(&mut machine, &mut full, extra);
+        }
+        push(&mut machine, &mut full, *event);
+    }
+    full
+}
+
+/// Adds an event to a sequence and takes it with the sequence's machine.
+fn push(machine: &mut Machine, events: &mut Vec<Event>, event: Event) {
+    events.push(event);
+    if let Ok(step) = step(machine, event) {
+        *machine = step.machine;
+    }
+}

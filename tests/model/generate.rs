@@ -1,0 +1,418 @@
+//! Makes logs for the tests: random ones that crowd around the places where a
+//! rule turns, a fixed set damaged at every place, and long typed ones.
+
+use crate::log::{event_record, log_of, read_log, settings_record};
+use crate::model::{
+    step, Event, Machine, Resting, Settings, Thumb, KEYS, LARGEST_STAMP, SHORT_OVERLAP,
+};
+use crate::notation;
+use crate::random::Random;
+
+/// T, J, L, solo as a log holds them.
+pub type RawSettings = (u16, u8, u8, u8);
+
+const SETTINGS_LENGTH: usize = 8;
+const EVENT_LENGTH: usize = 13;
+
+/// A log and the length of the byte run that it is read into.
+pub struct Case {
+    pub log: Vec<u8>,
+    pub room: usize,
+}
+
+// ---- Random cases ----
+
+/// One random case; the same random numbers give the same case.
+pub fn random_case(random: &mut Random) -> Case {
+    let log = match random.below(64) {
+        0 => noise(random),
+        1..=16 => {
+            let log = random_log(random);
+            damaged(random, log)
+        }
+        _ => random_log(random),
+    };
+    let room = random_room(random, &log);
+    Case { log, room }
+}
+
+/// A log whose records are whole; its settings or events may be refused.
+fn random_log(random: &mut Random) -> Vec<u8> {
+    let raw = if random.once_in(24) { wrong_settings(random) } else { right_settings(random) };
+    let count = random_count(random);
+    let refusals = random.once_in(4);
+    // After refused settings there is no machine; any will do to go on with.
+    let events = match open(raw) {
+        Some(machine) => random_events(random, machine, count, refusals),
+        None => vec![Event { kind: 1, key: 21, stamp: 0 }; count.min(3)],
+    };
+    log_of(raw, &events)
+}
+
+/// A fresh machine, if the settings are in range.
+pub fn open((t, j, l, solo): RawSettings) -> Option<Machine> {
+    Settings::new(t.into(), j.into(), l.into(), solo.into()).map(Machine::fresh)
+}
+
+/// Mostly short; now and then beyond the program's buffer.
+fn random_count(random: &mut Random) -> usize {
+    match random.below(5_000) {
+        0 => random.between(5_000, 5_080) as usize,
+        1..=100 => 0,
+        101..=800 => random.place(5),
+        801..=4_600 => random.place(30),
+        _ => random.place(150),
+    }
+}
+
+/// Settings in range, boundaries often among them.
+pub fn right_settings(random: &mut Random) -> RawSettings {
+    let t = match random.below(4) {
+        0 => random.between(50, 200) as u16,
+        _ => random.pick(&[50, 51, 100, 100, 199, 200]),
+    };
+    (t, percent(random), percent(random), random.pick(&[0, 1]))
+}
+
+fn percent(random: &mut Random) -> u8 {
+    match random.below(4) {
+        0 => random.between(1, 99) as u8,
+        _ => random.pick(&[1, 2, 33, 50, 50, 60, 70, 98, 99]),
+    }
+}
+
+/// Settings with at least one number out of range.
+fn wrong_settings(random: &mut Random) -> RawSettings {
+    let (t, j, l, solo) = right_settings(random);
+    let percent = random.pick(&[0, 100, 255]);
+    match random.below(4) {
+        0 => (random.pick(&[0, 49, 201, 255, 256, 306, 65_535]), j, l, solo),
+        1 => (t, percent, l, solo),
+        2 => (t, j, percent, solo),
+        _ => (t, j, l, random.pick(&[2, 3, 255])),
+    }
+}
+
+/// Events one after the other, each made with the machine that the ones before
+/// it left, so that stamps can be chosen around its deadline.
+pub fn random_events(
+    random: &mut Random,
+    mut machine: Machine,
+    count: usize,
+    refusals: bool,
+) -> Vec<Event> {
+    let keys = [0; 3].map(|_| random.below(KEYS.into()) as u8);
+    let mut events = Vec::with_capacity(count);
+    for _ in 0..count {
+        let event = if refusals && random.once_in(10) {
+            refused_event(random, &machine)
+        } else {
+            accepted_event(random, &machine, &keys)
+        };
+        if let Ok(step) = step(&machine, event) {
+            machine = step.machine;
+        }
+        events.push(event);
+    }
+    events
+}
+
+/// Few keys, so that they are often repeated; both thumbs.
+fn accepted_event(random: &mut Random, machine: &Machine, keys: &[u8]) -> Event {
+    if random.once_in(4) {
+        if let Some(event) = turning_event(random, machine, keys) {
+            return event;
+        }
+    }
+    let any = random.below(KEYS.into()) as u8;
+    let key = if random.once_in(8) { any } else { random.pick(keys) };
+    let thumb = random.pick(&[0, 1]);
+    let (kind, key) = match random.below(20) {
+        0..=5 => (1, key),
+        6..=9 => (2, machine.waiting().filter(|_| !random.once_in(4)).unwrap_or(key)),
+        10..=14 => (3, thumb),
+        15..=16 => (4, thumb),
+        17 => (5, 0),
+        _ => (6, 0),
+    };
+    Event { kind, key, stamp: next_stamp(random, machine) }
+}
+
+/// An event at or beside the stamp where its own rule turns: equal gaps in S4
+/// and S5, 400 ms in S4, and in S5 the longest wait that leads on to S4.
+fn turning_event(random: &mut Random, machine: &Machine, keys: &[u8]) -> Option<Event> {
+    let deadline = machine.next_deadline().ok()??;
+    let (kind, key, stamp) = match machine.resting {
+        Resting::S4 { m, o, .. } if random.once_in(2) => (1, random.pick(keys), o + (o - m)),
+        Resting::S4 { key, o, .. } => (2, key, o + SHORT_OVERLAP),
+        Resting::S5 { o, m, thumb, .. } => {
+            let other = u8::from(thumb == Thumb::Left);
+            (3, other, random.pick(&[m + (m - o), deadline.saturating_sub(2)]))
+        }
+        _ => return None,
+    };
+    Some(Event { kind, key, stamp: beside(random, machine, stamp) })
+}
+
+/// One before, at or one after a stamp, if the machine accepts that.
+fn beside(random: &mut Random, machine: &Machine, stamp: u64) -> u64 {
+    (stamp + random.below(3)).saturating_sub(1).clamp(machine.last, LARGEST_STAMP)
+}
+
+/// A stamp that the machine accepts, often at or beside its deadline.
+pub fn next_stamp(random: &mut Random, machine: &Machine) -> u64 {
+    let last = machine.last;
+    let deadline = machine.next_deadline().ok().flatten();
+    let stamp = match random.below(64) {
+        0..=9 => last,
+        10..=37 => return beside(random, machine, deadline.unwrap_or(last)),
+        38..=51 => last + random.below(40),
+        52..=59 => last + random.below(450),
+        60..=62 => last + random.below(30_000),
+        _ => LARGEST_STAMP - random.below(1_000),
+    };
+    stamp.clamp(last, LARGEST_STAMP)
+}
+
+/// An event that is refused 3, 4 or 5, sometimes for two reasons at once.
+fn refused_event(random: &mut Random, machine: &Machine) -> Event {
+    let event = accepted_event(random, machine, &[0, 30]);
+    let early = machine.last.saturating_sub(random.pick(&[1, 1, 256]));
+    let beyond = random.pick(&[LARGEST_STAMP + 1, LARGEST_STAMP + 256, u64::MAX]);
+    let (kind, key) = forbidden(random);
+    match random.below(6) {
+        0 | 1 => Event { kind, key, ..event },
+        2 => Event { kind, key, stamp: random.pick(&[early, beyond]) },
+        3 => Event { stamp: beyond, ..event },
+        _ => Event { stamp: early, ..event },
+    }
+}
+
+/// A kind and key that are not allowed.
+fn forbidden(random: &mut Random) -> (u8, u8) {
+    random.pick(&[
+        (0, 0),
+        (7, 0),
+        (8, 1),
+        (255, 0),
+        (1, 31),
+        (1, 32),
+        (1, 255),
+        (2, 31),
+        (2, 255),
+        (3, 2),
+        (3, 31),
+        (4, 2),
+        (4, 255),
+        (5, 1),
+        (6, 1),
+        (6, 30),
+    ])
+}
+
+/// Bytes that are no log, mostly small numbers so that some look like headers.
+fn noise(random: &mut Random) -> Vec<u8> {
+    let mut log = if random.once_in(2) { settings_record(100, 50, 50, 1) } else { vec![] };
+    for _ in 0..random.below(40) {
+        let byte = random.byte();
+        log.push(random.pick(&[0, 1, 2, 5, 10, byte]));
+    }
+    log
+}
+
+/// A log with one damage at a random place.
+fn damaged(random: &mut Random, mut log: Vec<u8>) -> Vec<u8> {
+    let place = random.place(log.len());
+    let record = record_start(random.place(record_count(&log)));
+    match random.below(16) {
+        0..=3 => log[place] = log[place].wrapping_add(random.between(1, 255) as u8),
+        4 => log[place] ^= random.pick(&[1, 2, 4, 8, 16, 32, 64, 128]),
+        5..=7 => log[record + random.place(3)] = random.pick(&[0, 1, 2, 3, 5, 9, 10, 11, 255]),
+        8..=10 => log.truncate(place),
+        11 => insert(&mut log, record, &settings_record(100, 50, 50, 0)),
+        12 => drop(log.drain(..SETTINGS_LENGTH)),
+        13 => drop(log.remove(place)),
+        14 => log.insert(place, random.byte()),
+        _ => log.extend((0..random.between(1, 20)).map(|_| random.pick(&[0, 1, 2, 10]))),
+    }
+    log
+}
+
+fn insert(log: &mut Vec<u8>, place: usize, bytes: &[u8]) {
+    log.splice(place..place, bytes.iter().copied());
+}
+
+/// How many records an undamaged log has.
+fn record_count(log: &[u8]) -> usize {
+    1 + log.len().saturating_sub(SETTINGS_LENGTH) / EVENT_LENGTH
+}
+
+/// Where a record of an undamaged log starts.
+fn record_start(index: usize) -> usize {
+    match index {
+        0 => 0,
+        _ => SETTINGS_LENGTH + (index - 1) * EVENT_LENGTH,
+    }
+}
+
+/// The bytes that a log's words need.
+fn need(log: &[u8]) -> usize {
+    let mut run = vec![0; log.len()];
+    2 * read_log(log, &mut run).words as usize
+}
+
+/// A run's length: ample, just enough, one too short, small, odd or even.
+fn random_room(random: &mut Random, log: &[u8]) -> usize {
+    let need = need(log);
+    match random.below(12) {
+        0 => random.place(8),
+        1 => need,
+        2 => need + 1,
+        3 => need.saturating_sub(1),
+        4 => need.saturating_sub(2),
+        5 => random.place(need + 1),
+        _ => need + 2 + random.place(40),
+    }
+}
+
+// ---- Damage at every place ----
+
+/// Logs that every damage is tried on: 01's own, one through all states, and one
+/// with steps of two words.
+const BASES: [(RawSettings, &str); 3] = [
+    (
+        (100, 50, 50, 0),
+        "24@0 24up@60 18@100 18up@150 21@200 R@230 21up@270 Rup@280 18@300 tick@400",
+    ),
+    (
+        (100, 50, 50, 1),
+        "R@0 21@40 Rup@60 L@70 24@80 R@90 24up@95 0@300 R@310 0@340 F@345 L@350 R@360 tick@470",
+    ),
+    ((100, 50, 50, 1), "R@0 21@40 Rup@60 tick@80 L@100 24@140 Lup@160 F@170 30@180"),
+];
+
+fn base_logs() -> impl Iterator<Item = Vec<u8>> {
+    BASES.iter().map(|(raw, text)| log_of(*raw, &notation::events(text).unwrap_or_default()))
+}
+
+/// Hands over every case of the fixed set; stops at the first error.
+pub fn every_place<E>(mut visit: impl FnMut(Case) -> Result<(), E>) -> Result<(), E> {
+    visit(Case { log: vec![], room: 5 })?;
+    for log in base_logs() {
+        every_room(&log, &mut visit)?;
+        every_cut(&log, &mut visit)?;
+        every_byte(&log, &mut visit)?;
+        settings_everywhere(&log, &mut visit)?;
+        every_boundary(&log[SETTINGS_LENGTH..], &mut visit)?;
+    }
+    every_kind_and_key(&mut visit)
+}
+
+type Visit<'a, E> = &'a mut dyn FnMut(Case) -> Result<(), E>;
+
+/// Every length of run, up to more than enough.
+fn every_room<E>(log: &[u8], visit: Visit<E>) -> Result<(), E> {
+    (0..need(log) + 5).try_for_each(|room| visit(Case { log: log.to_vec(), room }))
+}
+
+/// Cut at every place.
+fn every_cut<E>(log: &[u8], visit: Visit<E>) -> Result<(), E> {
+    (0..=log.len()).try_for_each(|cut| visit(Case { log: log[..cut].to_vec(), room: 41 }))
+}
+
+/// Every value in every byte.
+fn every_byte<E>(log: &[u8], visit: Visit<E>) -> Result<(), E> {
+    for place in 0..log.len() {
+        for value in 0..=255 {
+            let mut log = log.to_vec();
+            log[place] = value;
+            visit(Case { log, room: 41 })?;
+        }
+    }
+    Ok(())
+}
+
+/// A settings record before every record and at the end.
+fn settings_everywhere<E>(log: &[u8], visit: Visit<E>) -> Result<(), E> {
+    (0..=record_count(log)).try_for_each(|index| {
+        let mut log = log.to_vec();
+        insert(&mut log, record_start(index), &settings_record(100, 50, 50, 0));
+        visit(Case { log, room: 41 })
+    })
+}
+
+/// Settings on and beside every boundary, before the same events.
+fn every_boundary<E>(events: &[u8], visit: Visit<E>) -> Result<(), E> {
+    let percents = [0, 1, 2, 50, 98, 99, 100, 255];
+    for t in [0, 49, 50, 51, 100, 199, 200, 201, 256, 306, 65_535] {
+        for (j, l) in percents.iter().flat_map(|j| percents.iter().map(move |l| (*j, *l))) {
+            for solo in [0, 1, 2, 255] {
+                let log = [&settings_record(t, j, l, solo), events].concat();
+                visit(Case { log, room: 41 })?;
+            }
+        }
+    }
+    Ok(())
+}
+
+/// Every kind with every key, at stamps on and beside the bounds.
+fn every_kind_and_key<E>(visit: Visit<E>) -> Result<(), E> {
+    let opened = log_of((100, 50, 50, 1), &[Event { kind: 1, key: 21, stamp: 7 }]);
+    let stamps = [6, 7, 106, 107, LARGEST_STAMP, LARGEST_STAMP + 1, u64::MAX];
+    for (index, (kind, key)) in pairs_of_bytes().enumerate() {
+        // All stamps where kind and key are near the allowed ones, one elsewhere.
+        let near = kind < 8 && key < 33;
+        let other = [stamps[index % stamps.len()]];
+        for stamp in if near { &stamps[..] } else { &other[..] } {
+            let record = event_record(Event { kind, key, stamp: *stamp });
+            visit(Case { log: [&opened[..], &record].concat(), room: 9 })?;
+        }
+    }
+    Ok(())
+}
+
+fn pairs_of_bytes() -> impl Iterator<Item = (u8, u8)> {
+    (0..=255).flat_map(|first| (0..=255).map(move |second| (first, second)))
+}
+
+// ---- Long typed logs ----
+
+/// A valid log of at most `bytes` bytes, as a typist would leave it: single
+/// keys, chords with the thumb a little before or after, overlapping keys, some
+/// function keys, and ticks from the host.
+pub fn typed_log(random: &mut Random, raw: RawSettings, bytes: usize) -> Vec<u8> {
+    let count = bytes.saturating_sub(SETTINGS_LENGTH) / EVENT_LENGTH;
+    let mut events = Vec::with_capacity(count + 8);
+    let mut now = random.below(1_000_000_000);
+    while events.len() < count {
+        type_one(random, now, &mut events);
+        now += random.between(70, 220);
+    }
+    events.sort_by_key(|event| event.stamp);
+    events.truncate(count);
+    log_of(raw, &events)
+}
+
+/// One stroke that starts at `now`.
+fn type_one(random: &mut Random, now: u64, events: &mut Vec<Event>) {
+    let key = random.below(KEYS.into()) as u8;
+    let thumb = random.pick(&[0, 1]);
+    let lag = random.between(0, 45);
+    let held = random.between(50, 140);
+    let mut add = |kind, key, stamp| events.push(Event { kind, key, stamp });
+    let (press, thumb_press) = match random.below(20) {
+        0 => return add(5, 0, now),
+        1..=11 => (now, None),
+        12..=15 => (now, Some(now + lag)),
+        _ => (now + lag, Some(now)),
+    };
+    add(1, key, press);
+    add(2, key, press + held);
+    if let Some(stamp) = thumb_press {
+        add(3, thumb, stamp);
+        add(4, thumb, stamp + random.between(50, 140));
+    }
+    if random.once_in(3) {
+        add(6, 0, now + 100);
+    }
+}

@@ -1,0 +1,530 @@
+//! The key-timing machine of document 01 in plain Rust, section by section in
+//! 01's order. Written from 01 alone and never from the proved code, so that a
+//! comparison of the two says something.
+
+// ---- Numbers ----
+
+/// From this overlap (ms) on, a chord is never taken for two single keys.
+pub const SHORT_OVERLAP: u64 = 400;
+pub const KEYS: u8 = 31;
+pub const LARGEST_STAMP: u64 = 1_000_000_000_000;
+
+/// A wrong rule put in on purpose, to show that a comparison can fail.
+#[derive(Clone, Copy, PartialEq, Eq, Debug)]
+pub enum Slip {
+    /// The event acts before the deadline that is due.
+    LateAfterEvent,
+    /// Waits are rounded down.
+    RoundsDown,
+    /// S4 falls back to S3 with a new stamp for the thumb.
+    ThumbRestarts,
+    /// S4's equal gaps go to the chord.
+    EqualGap,
+    /// S5's wait grows with a held thumb.
+    NoCap,
+    /// The 400 ms rule is missing.
+    NoShortOverlap,
+}
+
+pub const SLIPS: [(&str, Slip); 6] = [
+    ("late-after-event", Slip::LateAfterEvent),
+    ("rounds-down", Slip::RoundsDown),
+    ("thumb-restarts", Slip::ThumbRestarts),
+    ("equal-gap", Slip::EqualGap),
+    ("no-cap", Slip::NoCap),
+    ("no-short-overlap", Slip::NoShortOverlap),
+];
+
+/// Settings in range: `new` is the only way to get one.
+#[derive(Clone, Copy, PartialEq, Eq, Debug)]
+pub struct Settings {
+    t: u64,
+    j: u64,
+    l: u64,
+    solo: bool,
+    slip: Option<Slip>,
+}
+
+impl Settings {
+    /// None if a number is out of range (refusal 1).
+    pub fn new(t: u64, j: u64, l: u64, solo: u64) -> Option<Settings> {
+        let percent = 1..=99;
+        if (50..=200).contains(&t) && percent.contains(&j) && percent.contains(&l) && solo <= 1 {
+            Some(Settings { t, j, l, solo: solo == 1, slip: None })
+        } else {
+            None
+        }
+    }
+
+    /// The same settings, judged by a wrong rule.
+    pub fn with_slip(self, slip: Option<Slip>) -> Settings {
+        Settings { slip, ..self }
+    }
+
+    fn slips(&self, slip: Slip) -> bool {
+        self.slip == Some(slip)
+    }
+
+    /// A quotient rounded up.
+    fn quotient(&self, n: u64, d: u64) -> u64 {
+        if self.slips(Slip::RoundsDown) {
+            n / d
+        } else {
+            n.div_ceil(d)
+        }
+    }
+
+    /// A: how long a lone character key waits.
+    pub fn a(&self) -> u64 {
+        self.quotient(self.t * (100 - self.j), self.j)
+    }
+
+    /// B: how long a lone thumb waits.
+    pub fn b(&self) -> u64 {
+        self.quotient(self.t * (100 - self.l), self.l)
+    }
+
+    /// FJ(x) for a lag x of at most the largest stamp; a longer one counts as that.
+    pub fn fj(&self, x: u64) -> u64 {
+        self.quotient(x.min(LARGEST_STAMP) * self.j, 100 - self.j)
+    }
+
+    /// FL(x), for x as in `fj`.
+    pub fn fl(&self, x: u64) -> u64 {
+        self.quotient(x.min(LARGEST_STAMP) * self.l, 100 - self.l)
+    }
+
+    /// W: no press waits this long.
+    pub fn longest_wait(&self) -> u64 {
+        let d = self.fl(self.b());
+        let x = self.a().max(d);
+        x + x.max(self.fj(x))
+    }
+}
+
+// ---- The layout ----
+
+#[derive(Clone, Copy, PartialEq, Eq, Debug)]
+pub enum Thumb {
+    Left,
+    Right,
+}
+
+#[derive(Clone, Copy, PartialEq, Eq, Debug)]
+pub enum Face {
+    Plain,
+    Under(Thumb),
+}
+
+/// 01's table: plain, left thumb, right thumb; five keys a row, six in the last.
+const LAYOUT: [[&str; 3]; 6] = [
+    ["．ひすふへ", "ぅーろやぃ", "-びずぶべ"],
+    ["めそねほ・", "ぷぞぺぼ-", "ぬゆむわぉ"],
+    ["うしてけせ", "をあなゅも", "-じでげぜ"],
+    ["はときいん", "ばどぎぽ-", "みおのょっ"],
+    ["。かたこさ", "ぁえりゃれ", "-がだござ"],
+    ["らちくつ，、", "ぱぢぐづぴ-", "よにるまぇ-"],
+];
+
+/// The character on a key's face; none for an empty face (or a key that isn't there).
+pub fn character(key: u8, face: Face) -> Option<char> {
+    let row = (key / 5).min(5);
+    let column = match face {
+        Face::Plain => 0,
+        Face::Under(Thumb::Left) => 1,
+        Face::Under(Thumb::Right) => 2,
+    };
+    let place = usize::from(key - 5 * row);
+    LAYOUT[usize::from(row)][column].chars().nth(place).filter(|c| *c != '-')
+}
+
+// ---- Resting states ----
+
+/// M is `key` pressed at `m`; O is `thumb` pressed at `o`, released at `r`.
+#[derive(Clone, Copy, PartialEq, Eq, Debug)]
+pub enum Resting {
+    /// Nothing.
+    S1,
+    /// M.
+    S2 { key: u8, m: u64 },
+    /// O.
+    S3 { thumb: Thumb, o: u64 },
+    /// M then O.
+    S4 { key: u8, m: u64, thumb: Thumb, o: u64 },
+    /// O then M.
+    S5 { thumb: Thumb, o: u64, key: u8, m: u64 },
+    /// O then M, O released.
+    S6 { thumb: Thumb, o: u64, key: u8, m: u64, r: u64 },
+}
+
+use Resting::{S1, S2, S3, S4, S5, S6};
+
+#[derive(Clone, Copy, PartialEq, Eq, Debug)]
+pub struct Machine {
+    pub settings: Settings,
+    pub resting: Resting,
+    /// The last accepted stamp.
+    pub last: u64,
+}
+
+impl Machine {
+    pub fn fresh(settings: Settings) -> Machine {
+        Machine { settings, resting: S1, last: 0 }
+    }
+
+    pub fn well_formed(&self) -> bool {
+        let last = self.last;
+        let resting = match self.resting {
+            S1 => true,
+            S2 { key, m } => key < KEYS && m <= last,
+            S3 { o, .. } => o <= last,
+            S4 { key, m, o, .. } => key < KEYS && m <= o && o <= last,
+            S5 { key, o, m, .. } => key < KEYS && o <= m && m <= last,
+            S6 { key, o, m, r, .. } => key < KEYS && o <= m && m <= r && r <= last,
+        };
+        resting && last <= LARGEST_STAMP
+    }
+
+    /// The next deadline, if there is one; refusal 2 for a state not well formed.
+    pub fn next_deadline(&self) -> Result<Option<u64>, u32> {
+        if self.well_formed() {
+            Ok(self.deadline())
+        } else {
+            Err(2)
+        }
+    }
+
+    /// The deadline of a well-formed state.
+    fn deadline(&self) -> Option<u64> {
+        let s = &self.settings;
+        match self.resting {
+            S1 => None,
+            S2 { m, .. } => Some(m + s.a()),
+            S3 { o, .. } => s.solo.then(|| o + s.b()),
+            S4 { m, o, .. } => Some(o + s.fj(o - m)),
+            S5 { o, m, .. } if s.slips(Slip::NoCap) => Some(m + s.fl(m - o)),
+            S5 { o, m, .. } => Some(m + s.fl((m - o).min(s.b()))),
+            S6 { m, r, .. } => Some(r + (r - m)),
+        }
+    }
+
+    /// The key of the character that waits.
+    pub fn waiting(&self) -> Option<u8> {
+        match self.resting {
+            S1 | S3 { .. } => None,
+            S2 { key, .. } | S4 { key, .. } | S5 { key, .. } | S6 { key, .. } => Some(key),
+        }
+    }
+}
+
+// ---- One event ----
+
+/// An event as it comes in, accepted or not.
+#[derive(Clone, Copy, PartialEq, Eq, Debug)]
+pub struct Event {
+    pub kind: u8,
+    pub key: u8,
+    pub stamp: u64,
+}
+
+/// What an allowed kind and key mean.
+#[derive(Clone, Copy, PartialEq, Eq, Debug)]
+enum Input {
+    CharacterDown(u8),
+    CharacterUp(u8),
+    ThumbDown(Thumb),
+    ThumbUp(Thumb),
+    Function,
+    Tick,
+}
+
+/// A character (key and face) or a mark.
+#[derive(Clone, Copy, PartialEq, Eq, Debug)]
+pub enum Item {
+    Character { key: u8, face: Face },
+    Mark(Thumb),
+}
+
+/// What a rule leaves: the committed items and the next resting state.
+type Outcome = (Vec<Item>, Resting);
+
+/// One accepted event, its late line included.
+#[derive(Clone, PartialEq, Eq, Debug)]
+pub struct Step {
+    pub machine: Machine,
+    pub items: Vec<Item>,
+    pub sendings: Vec<Sending>,
+}
+
+/// Takes one event: a step, or the number it is refused with (then the
+/// machine stays as it was given).
+pub fn step(machine: &Machine, event: Event) -> Result<Step, u32> {
+    let input = accept(machine, event)?;
+    let now = event.stamp;
+    let (items, resting) = if machine.settings.slips(Slip::LateAfterEvent) {
+        in_turn(machine, |m| act(m, input, now), |m| settle(m, now))
+    } else {
+        in_turn(machine, |m| settle(m, now), |m| act(m, input, now))
+    };
+    let after = Machine { settings: machine.settings, resting, last: now };
+    let sendings = sendings(shown(&machine.resting), &items, shown(&resting));
+    Ok(Step { machine: after, items, sendings })
+}
+
+/// Does one thing and then another, gathering their items.
+fn in_turn(
+    machine: &Machine,
+    first: impl Fn(&Machine) -> Outcome,
+    then: impl Fn(&Machine) -> Outcome,
+) -> Outcome {
+    let (mut items, resting) = first(machine);
+    let (more, resting) = then(&Machine { resting, ..*machine });
+    items.extend(more);
+    (items, resting)
+}
+
+/// Refusals 2, 3, 4, 5 in this order.
+fn accept(machine: &Machine, event: Event) -> Result<Input, u32> {
+    if !machine.well_formed() {
+        return Err(2);
+    }
+    let input = parse(event.kind, event.key).ok_or(3u32)?;
+    if event.stamp > LARGEST_STAMP {
+        return Err(4);
+    }
+    if event.stamp < machine.last {
+        return Err(5);
+    }
+    Ok(input)
+}
+
+fn parse(kind: u8, key: u8) -> Option<Input> {
+    match (kind, key) {
+        (1, 0..=30) => Some(Input::CharacterDown(key)),
+        (2, 0..=30) => Some(Input::CharacterUp(key)),
+        (3, _) => thumb(key).map(Input::ThumbDown),
+        (4, _) => thumb(key).map(Input::ThumbUp),
+        (5, 0) => Some(Input::Function),
+        (6, 0) => Some(Input::Tick),
+        _ => None,
+    }
+}
+
+fn thumb(key: u8) -> Option<Thumb> {
+    match key {
+        0 => Some(Thumb::Left),
+        1 => Some(Thumb::Right),
+        _ => None,
+    }
+}
+
+/// The line "late", if the deadline is at or before the event's stamp.
+fn settle(machine: &Machine, now: u64) -> Outcome {
+    match machine.deadline() {
+        Some(deadline) if deadline <= now => late(machine),
+        _ => (vec![], machine.resting),
+    }
+}
+
+fn late(machine: &Machine) -> Outcome {
+    let items = match machine.resting {
+        S1 => vec![],
+        S2 { key, .. } => plain(key),
+        S3 { thumb, .. } => mark(machine, thumb),
+        S4 { key, thumb, .. } | S5 { key, thumb, .. } => chord(key, thumb),
+        S6 { key, thumb, .. } => [mark(machine, thumb), plain(key)].concat(),
+    };
+    (items, S1)
+}
+
+/// Commit M.
+fn plain(key: u8) -> Vec<Item> {
+    vec![Item::Character { key, face: Face::Plain }]
+}
+
+/// Commit M+O.
+fn chord(key: u8, thumb: Thumb) -> Vec<Item> {
+    vec![Item::Character { key, face: Face::Under(thumb) }]
+}
+
+/// Mark O: only with solo 1.
+fn mark(machine: &Machine, thumb: Thumb) -> Vec<Item> {
+    if machine.settings.solo {
+        vec![Item::Mark(thumb)]
+    } else {
+        vec![]
+    }
+}
+
+/// What the event does, the deadline being dealt with.
+fn act(machine: &Machine, input: Input, now: u64) -> Outcome {
+    match machine.resting {
+        S1 => act_s1(input, now),
+        S2 { key, m } => act_s2(key, m, input, now),
+        S3 { thumb, o } => act_s3(machine, thumb, o, input, now),
+        S4 { key, m, thumb, o } => act_s4(machine, (key, m), (thumb, o), input, now),
+        S5 { thumb, o, key, m } => act_s5(machine, (thumb, o), (key, m), input, now),
+        S6 { thumb, key, .. } => act_s6(machine, thumb, key, input, now),
+    }
+}
+
+fn act_s1(input: Input, now: u64) -> Outcome {
+    match input {
+        Input::CharacterDown(key) => (vec![], S2 { key, m: now }),
+        Input::ThumbDown(thumb) => (vec![], S3 { thumb, o: now }),
+        _ => (vec![], S1),
+    }
+}
+
+fn act_s2(key: u8, m: u64, input: Input, now: u64) -> Outcome {
+    match input {
+        Input::CharacterDown(new) => (plain(key), S2 { key: new, m: now }),
+        Input::ThumbDown(thumb) => (vec![], S4 { key, m, thumb, o: now }),
+        Input::CharacterUp(up) if up == key => (plain(key), S1),
+        Input::Function => (plain(key), S1),
+        _ => (vec![], S2 { key, m }),
+    }
+}
+
+fn act_s3(machine: &Machine, thumb: Thumb, o: u64, input: Input, now: u64) -> Outcome {
+    match input {
+        Input::CharacterDown(key) => (vec![], S5 { thumb, o, key, m: now }),
+        Input::ThumbDown(other) if other != thumb => {
+            (mark(machine, thumb), S3 { thumb: other, o: now })
+        }
+        Input::ThumbUp(up) if up == thumb => (mark(machine, thumb), S1),
+        Input::Function => (mark(machine, thumb), S1),
+        _ => (vec![], S3 { thumb, o }),
+    }
+}
+
+fn act_s4(
+    machine: &Machine,
+    (key, m): (u8, u64),
+    (thumb, o): (Thumb, u64),
+    input: Input,
+    now: u64,
+) -> Outcome {
+    let settings = &machine.settings;
+    let (a, b) = (o - m, now - o);
+    match input {
+        Input::CharacterDown(new) if keeps_plain(settings, a, b) => {
+            (plain(key), S5 { thumb, o, key: new, m: now })
+        }
+        Input::CharacterDown(new) => (chord(key, thumb), S2 { key: new, m: now }),
+        Input::ThumbDown(other) if other != thumb => {
+            (chord(key, thumb), S3 { thumb: other, o: now })
+        }
+        Input::CharacterUp(up) if up == key => {
+            if short_overlap(settings, settings.j, a, b) {
+                let o = if settings.slips(Slip::ThumbRestarts) { now } else { o };
+                (plain(key), S3 { thumb, o })
+            } else {
+                (chord(key, thumb), S1)
+            }
+        }
+        Input::ThumbUp(up) if up == thumb => (chord(key, thumb), S1),
+        Input::Function => (chord(key, thumb), S1),
+        _ => (vec![], S4 { key, m, thumb, o }),
+    }
+}
+
+fn act_s5(
+    machine: &Machine,
+    (thumb, o): (Thumb, u64),
+    (key, m): (u8, u64),
+    input: Input,
+    now: u64,
+) -> Outcome {
+    let settings = &machine.settings;
+    let (a, b) = (m - o, now - m);
+    match input {
+        Input::CharacterDown(new) => (chord(key, thumb), S2 { key: new, m: now }),
+        Input::ThumbDown(other) if other != thumb => {
+            if a >= b {
+                (mark(machine, thumb), S4 { key, m, thumb: other, o: now })
+            } else {
+                (chord(key, thumb), S3 { thumb: other, o: now })
+            }
+        }
+        Input::ThumbUp(up) if up == thumb => {
+            if short_overlap(settings, settings.l, a, b) {
+                (vec![], S6 { thumb, o, key, m, r: now })
+            } else {
+                (chord(key, thumb), S1)
+            }
+        }
+        Input::CharacterUp(up) if up == key => (chord(key, thumb), S1),
+        Input::Function => (chord(key, thumb), S1),
+        _ => (vec![], S5 { thumb, o, key, m }),
+    }
+}
+
+fn act_s6(machine: &Machine, thumb: Thumb, key: u8, input: Input, now: u64) -> Outcome {
+    match input {
+        Input::CharacterDown(new) => (chord(key, thumb), S2 { key: new, m: now }),
+        Input::ThumbDown(either) => (chord(key, thumb), S3 { thumb: either, o: now }),
+        Input::CharacterUp(up) if up == key => (chord(key, thumb), S1),
+        Input::Function => ([mark(machine, thumb), plain(key)].concat(), S1),
+        _ => (vec![], machine.resting),
+    }
+}
+
+/// S4, second character: the first gap is at least as long as the second.
+fn keeps_plain(settings: &Settings, a: u64, b: u64) -> bool {
+    if settings.slips(Slip::EqualGap) {
+        a > b
+    } else {
+        a >= b
+    }
+}
+
+/// The overlap b is under its share of the whole, and under 400 ms.
+fn short_overlap(settings: &Settings, percent: u64, a: u64, b: u64) -> bool {
+    let short = b < SHORT_OVERLAP || settings.slips(Slip::NoShortOverlap);
+    100 * b < percent * (a + b) && short
+}
+
+// ---- Zero delay ----
+
+/// What a screen or a line holds.
+#[derive(Clone, Copy, PartialEq, Eq, Debug)]
+pub enum Sign {
+    Character(char),
+    Mark(Thumb),
+}
+
+#[derive(Clone, Copy, PartialEq, Eq, Debug)]
+pub enum Sending {
+    Backspace,
+    Sign(Sign),
+}
+
+/// The character shown while M waits; none for an empty face.
+pub fn shown(resting: &Resting) -> Option<Sign> {
+    let c = match *resting {
+        S1 | S3 { .. } => None,
+        S2 { key, .. } | S4 { key, .. } => character(key, Face::Plain),
+        S5 { key, thumb, .. } | S6 { key, thumb, .. } => character(key, Face::Under(thumb)),
+    };
+    c.map(Sign::Character)
+}
+
+/// The sign of an item; none for an empty face.
+pub fn sign(item: &Item) -> Option<Sign> {
+    match *item {
+        Item::Character { key, face } => character(key, face).map(Sign::Character),
+        Item::Mark(thumb) => Some(Sign::Mark(thumb)),
+    }
+}
+
+/// p is what was shown before the step, `after` what is shown after it.
+fn sendings(p: Option<Sign>, items: &[Item], after: Option<Sign>) -> Vec<Sending> {
+    let q: Vec<Sign> = items.iter().filter_map(sign).chain(after).collect();
+    let signs = |q: &[Sign]| q.iter().map(|s| Sending::Sign(*s)).collect::<Vec<_>>();
+    match p {
+        None => signs(&q),
+        Some(_) if q.first() == p.as_ref() => signs(&q[1..]),
+        Some(_) => [vec![Sending::Backspace], signs(&q)].concat(),
+    }
+}

@@ -1,0 +1,130 @@
+//! Document 01's "Keystrokes to try" and "Where a programmer slips", and a few
+//! more, as one table: what each keystroke commits and sends, and the state it
+//! leaves. States and sendings that 01 doesn't name were worked out by hand.
+
+/// Keystroke, what it commits, what it sends, the state it leaves.
+pub type Line = (&'static str, &'static str, &'static str, &'static str);
+
+pub struct Example {
+    pub name: &'static str,
+    /// T, J, L, solo.
+    pub settings: (u64, u64, u64, u64),
+    pub lines: &'static [Line],
+}
+
+const USUAL: (u64, u64, u64, u64) = (100, 50, 50, 0);
+const SOLO: (u64, u64, u64, u64) = (100, 50, 50, 1);
+
+#[rustfmt::skip]
+pub const EXAMPLES: [Example; 18] = [
+    Example { name: "P1", settings: USUAL, lines: &[
+        ("21@0", "", "か", "S2"),
+        ("tick@99", "", "", "S2"),
+        ("tick@100", "か", "", "S1"),
+    ] },
+    Example { name: "P2", settings: USUAL, lines: &[
+        ("21@0", "", "か", "S2"),
+        ("21up@50", "か", "", "S1"),
+    ] },
+    Example { name: "P3", settings: USUAL, lines: &[
+        ("21@0", "", "か", "S2"),
+        ("R@30", "", "", "S4"),
+        ("21up@59", "か", "", "S3"),
+    ] },
+    Example { name: "P4", settings: USUAL, lines: &[
+        ("21@0", "", "か", "S2"),
+        ("R@30", "", "", "S4"),
+        ("21up@60", "が", "<BS>が", "S1"),
+    ] },
+    Example { name: "P5", settings: USUAL, lines: &[
+        ("R@0", "", "", "S3"),
+        ("21@30", "", "が", "S5"),
+        ("tick@59", "", "", "S5"),
+        ("tick@60", "が", "", "S1"),
+    ] },
+    Example { name: "P6", settings: USUAL, lines: &[
+        ("21@0", "", "か", "S2"),
+        ("R@0", "", "", "S4"),
+        ("tick@0", "が", "<BS>が", "S1"),
+    ] },
+    Example { name: "P7", settings: USUAL, lines: &[
+        ("21@0", "", "か", "S2"),
+        ("R@30", "", "", "S4"),
+        ("24@50", "か", "ざ", "S5"),
+        ("tick@70", "ざ", "", "S1"),
+    ] },
+    Example { name: "P8", settings: (100, 60, 50, 0), lines: &[
+        ("21@0", "", "か", "S2"),
+        ("R@30", "", "", "S4"),
+        ("24@60", "か", "ざ", "S5"),
+        ("tick@90", "ざ", "", "S1"),
+    ] },
+    Example { name: "P9", settings: SOLO, lines: &[
+        ("R@0", "", "", "S3"),
+        ("21@40", "", "が", "S5"),
+        ("Rup@60", "", "", "S6"),
+        ("tick@79", "", "", "S6"),
+        ("tick@80", "<R>か", "<BS><R>か", "S1"),
+    ] },
+    Example { name: "P10", settings: SOLO, lines: &[
+        ("R@0", "", "", "S3"),
+        ("21@40", "", "が", "S5"),
+        ("L@60", "<R>", "<BS><R>か", "S4"),
+        ("tick@80", "え", "<BS>え", "S1"),
+    ] },
+    Example { name: "P11", settings: USUAL, lines: &[
+        ("R@0", "", "", "S3"),
+        ("21@1000", "", "が", "S5"),
+        ("tick@1099", "", "", "S5"),
+        ("tick@1100", "が", "", "S1"),
+    ] },
+    Example { name: "deadline before the event", settings: USUAL, lines: &[
+        ("21@0", "", "か", "S2"),
+        ("R@100", "か", "", "S3"),
+        ("tick@200", "", "", "S3"),
+    ] },
+    Example { name: "waits rounded up, J=70, lag 10", settings: (100, 70, 50, 0), lines: &[
+        ("21@0", "", "か", "S2"),
+        ("R@10", "", "", "S4"),
+        ("tick@33", "", "", "S4"),
+        ("tick@34", "が", "<BS>が", "S1"),
+    ] },
+    Example { name: "the thumb keeps its stamp from S4 to S3", settings: SOLO, lines: &[
+        ("21@0", "", "か", "S2"),
+        ("R@30", "", "", "S4"),
+        ("21up@59", "か", "", "S3"),
+        ("tick@129", "", "", "S3"),
+        ("tick@130", "<R>", "<R>", "S1"),
+    ] },
+    Example { name: "late by the press, not by the tick", settings: SOLO, lines: &[
+        ("21@0", "", "か", "S2"),
+        ("R@500", "か", "", "S3"),
+        ("24@599", "", "ざ", "S5"),
+        ("tick@697", "", "", "S5"),
+        ("tick@698", "ざ", "", "S1"),
+    ] },
+    Example { name: "no backspace over a mark", settings: SOLO, lines: &[
+        ("R@0", "", "", "S3"),
+        ("L@10", "<R>", "<R>", "S3"),
+        ("21@20", "", "え", "S5"),
+        ("Lup@25", "", "", "S6"),
+        ("F@29", "<L>か", "<BS><L>か", "S1"),
+        ("F@29", "", "", "S1"),
+    ] },
+    Example { name: "an empty face commits and shows nothing", settings: USUAL, lines: &[
+        ("0@0", "", "．", "S2"),
+        ("R@10", "", "", "S4"),
+        ("0@25", "", "", "S2"),
+        ("0up@30", "．", "", "S1"),
+        ("L@40", "", "", "S3"),
+        ("30@50", "", "", "S5"),
+        ("tick@60", "", "", "S1"),
+    ] },
+    Example { name: "400 ms", settings: (200, 99, 99, 0), lines: &[
+        ("R@0", "", "", "S3"),
+        ("21@1000", "", "が", "S5"),
+        ("L@1296", "", "<BS>か", "S4"),
+        ("tick@1696", "", "", "S4"),
+        ("21up@1696", "え", "<BS>え", "S1"),
+    ] },
+];
