@@ -1,5 +1,5 @@
--- Document 01, "Keystrokes to try": the examples P1 to P11 as one table, and the numbers that 01 works out as another. The
--- proofs are in proofs/Examples.antt.
+-- Document 01, "Keystrokes to try": the examples P1 to P11 as one table (P8 as 1/12 of document 02 has it), and the numbers that
+-- 01 works out as another. The proofs are in proofs/Examples.antt.
 use Prim.Native.Nat.{ℕ}
 use Prim.Native.Char.{code}
 use Prim.Native.String.{String}
@@ -15,7 +15,7 @@ use Rattle.rules.specs.declared.Thumb.{Thumb}
 use Rattle.rules.specs.declared.Thumb.the-variants.{Left, Right}
 use Rattle.rules.specs.declared.Settings.{Settings}
 use Rattle.rules.specs.declared.Resting.{Resting}
-use Rattle.rules.specs.declared.Resting.the-variants.{S1, S3}
+use Rattle.rules.specs.declared.Resting.the-variants.{S1, S2, S3}
 use Rattle.rules.specs.declared.Face.the-variants.{Plain, With}
 use Rattle.rules.specs.declared.Item.{Item}
 use Rattle.rules.specs.declared.Item.the-variants.{Character, Mark}
@@ -34,6 +34,9 @@ abbrev pub え : Item
 
 abbrev pub が : Item
 が = Character (key 21) (With Right)
+
+abbrev pub さ : Item
+さ = Character (key 24) Plain
 
 abbrev pub ざ : Item
 ざ = Character (key 24) (With Right)
@@ -110,7 +113,8 @@ examples =
     example "P7" usual
     (down 21 0 ∷ thumb Right 30 ∷ down 24 50 ∷ text (か ∷ []) ∷ tick 70 ∷ text (か ∷ ざ ∷ []) ∷ []) ∷
     example "P8" with-J-60
-    (down 21 0 ∷ thumb Right 30 ∷ down 24 60 ∷ text (か ∷ []) ∷ tick 90 ∷ text (か ∷ ざ ∷ []) ∷ []) ∷
+    (down 21 0 ∷ thumb Right 30 ∷ down 24 60 ∷ text (が ∷ []) ∷ rests (S2 (key 24) (at 60)) ∷ tick 126 ∷ text (が ∷ []) ∷
+    tick 127 ∷ text (が ∷ さ ∷ []) ∷ []) ∷
     example "P9" with-solo
     (thumb Right 0 ∷ down 21 40 ∷ thumb-up Right 60 ∷ tick 79 ∷ nothing ∷ tick 80 ∷ text (right-mark ∷ か ∷ []) ∷
     sent (backspace ∷ sign 2 ∷ sign (code "か") ∷ []) ∷ []) ∷

@@ -56,9 +56,9 @@ same-thumb Right Right = true
 unfoldable pub same-key : Key → Key → Bool
 same-key N M = eqb (N .0) (M .0)
 
--- S4, a second character: it takes the thumb from M where a≥b, that is b≤a
+-- S4, a second character: it takes the thumb from M where a>b, that is b<a; an equal gap leaves it with M (1/12)
 unfoldable pub second-character-takes-thumb : ℕ → ℕ → Bool
-second-character-takes-thumb a b = leb b a
+second-character-takes-thumb a b = ltb b a
 
 -- S5, a second thumb: it takes the character from O where a≥b, that is b≤a
 unfoldable pub second-thumb-takes-character : ℕ → ℕ → Bool
@@ -104,7 +104,7 @@ in-S3 s now O o (ThumbUp P) = if same-thumb P O then (mark s O leaving S1) else 
 in-S3 s now O o FunctionDown = mark s O leaving S1
 in-S3 s now O o Tick = nothing leaving S3 O o
 
--- S4, a=o-m (lag m o), b=now-o (lag o now): character → if a≥b commit M, S5 with the same O and the new key; else commit M+O, S2 with the new key.
+-- S4, a=o-m (lag m o), b=now-o (lag o now): character → if a>b commit M, S5 with the same O and the new key; else commit M+O, S2 with the new key.
 -- Other thumb → commit M+O, S3 with it. M up → if the overlap is short commit M, S3 with O and its old stamp; else commit
 -- M+O, S1. O up or function → commit M+O, S1.
 abbrev pub in-S4 : Settings → Stamp → Key → Stamp → Thumb → Stamp → Input → Done

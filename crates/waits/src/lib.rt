@@ -75,11 +75,11 @@ pub fn is_key(k: Key) -> bool
     k.0 < Machine::KEYS.0
 }
 
-// S4, a second character: it takes the thumb from the first.
+// S4, a second character: it takes the thumb from the first where it is nearer to it.
 pub fn second_character_takes_thumb(a: Lag, b: Lag) -> bool
     ensures { λ r. ⌜ r ≡ second-character-takes-thumb (a .0) (b .0) ⌝ }
 {
-    b.0 <= a.0
+    b.0 < a.0
 }
 
 // S5, a second thumb: it takes the character from the first.
