@@ -11,6 +11,8 @@ use trabeculon_model::notation::events;
 
 struct Example {
     name: &'static str,
+    /// T, J, L, solo.
+    settings: (u16, u8, u8, u8),
     keystrokes: &'static str,
     /// Place and value of a damaged byte.
     damage: Option<(usize, u8)>,
@@ -18,12 +20,12 @@ struct Example {
     expected: &'static str,
 }
 
-/// T, J, L, solo of all examples.
-const SETTINGS: (u16, u8, u8, u8) = (100, 50, 50, 0);
+const USUAL: (u16, u8, u8, u8) = (100, 50, 50, 0);
 
-const EXAMPLES: [Example; 3] = [
+const EXAMPLES: [Example; 4] = [
     Example {
         name: "saigai",
+        settings: USUAL,
         keystrokes: "24@0 24up@60 18@100 18up@150 21@200 R@230 21up@270 Rup@280 18@300 tick@400",
         damage: None,
         text: "\
@@ -48,6 +50,7 @@ play prints さいがい, and nothing waits.
     },
     Example {
         name: "saikai",
+        settings: USUAL,
         keystrokes: "24@0 24up@60 18@100 18up@150 21@200 R@230 21up@250 Rup@280 18@300 tick@400",
         damage: None,
         text: "\
@@ -74,6 +77,7 @@ play prints さいかい, and nothing waits.
     },
     Example {
         name: "damaged",
+        settings: USUAL,
         keystrokes: "24@0 24up@60 18@100 18up@150 21@200 R@230 21up@270 Rup@280 18@300 tick@400",
         damage: Some((73, 9)),
         text: "\
@@ -92,6 +96,29 @@ right thumb's press) is 9, which is no tag. 138 bytes, T=100, J=L=50, solo 0.
 play prints さい, which was committed before the damage, and where it is.
 ",
         expected: "さい\nrefused 7 at 73\n",
+    },
+    Example {
+        name: "equal-gap",
+        settings: (100, 60, 50, 0),
+        keystrokes: "21@0 R@30 24@60 tick@126 tick@127",
+        damage: None,
+        text: "\
+Document 01's keystrokes P8 as request 1/12 has them: the thumb lies 30 ms behind
+the first character and 30 ms before the second, and the first has it. 73 bytes,
+T=100, J=60, L=50, solo 0.
+
+   at  stamp  typed                what happens
+    0         settings
+    8      0  key 21 (か) down     か waits
+   21     30  right thumb down     か and the thumb wait until 75
+   34     60  key 24 (さ) down     equal gaps: the chord が is committed, さ
+                                   waits alone until 127
+   47    126  tick                 nothing
+   60    127  tick                 late: さ is committed
+
+play prints がさ, and nothing waits.
+",
+        expected: "がさ\nwaiting 0\n",
     },
 ];
 
@@ -124,7 +151,7 @@ fn make(folder: &Path, example: &Example) -> Result<()> {
 }
 
 fn log(example: &Example) -> Option<Vec<u8>> {
-    let mut log = log_of(SETTINGS, &events(example.keystrokes)?);
+    let mut log = log_of(example.settings, &events(example.keystrokes)?);
     if let Some((place, value)) = example.damage {
         *log.get_mut(place)? = value;
     }

@@ -1,6 +1,7 @@
-//! The key-timing machine of document 01 in plain Rust, section by section in
-//! 01's order. Written from 01 alone and never from the proved code, so that a
-//! comparison of the two says something.
+//! The key-timing machine of document 01, as request 1/12 of document 02 mends
+//! it, in plain Rust, section by section in 01's order. Written from the papers
+//! alone and never from the proved code, so that a comparison of the two says
+//! something.
 
 // ---- Numbers ----
 
@@ -18,7 +19,7 @@ pub enum Slip {
     RoundsDown,
     /// S4 falls back to S3 with a new stamp for the thumb.
     ThumbRestarts,
-    /// S4's equal gaps go to the chord.
+    /// S4's equal gaps go to the second character, as before 1/12.
     EqualGap,
     /// S5's wait grows with a held thumb.
     NoCap,
@@ -470,12 +471,13 @@ fn act_s6(machine: &Machine, thumb: Thumb, key: u8, input: Input, now: u64) -> O
     }
 }
 
-/// S4, second character: the first gap is at least as long as the second.
+/// S4, second character: the thumb is nearer to it than to the first. Equal gaps
+/// go to the first (1/12).
 fn keeps_plain(settings: &Settings, a: u64, b: u64) -> bool {
     if settings.slips(Slip::EqualGap) {
-        a > b
-    } else {
         a >= b
+    } else {
+        a > b
     }
 }
 

@@ -1,6 +1,7 @@
-//! Document 01's "Keystrokes to try" and "Where a programmer slips", and a few
-//! more, as one table: what each keystroke commits and sends, and the state it
-//! leaves. States and sendings that 01 doesn't name were worked out by hand.
+//! Document 01's "Keystrokes to try" (P8 as request 1/12 has it) and "Where a
+//! programmer slips", and a few more, as one table: what each keystroke commits
+//! and sends, and the state it leaves. States and sendings that the papers don't
+//! name were worked out by hand.
 
 /// Keystroke, what it commits, what it sends, the state it leaves.
 pub type Line = (&'static str, &'static str, &'static str, &'static str);
@@ -16,7 +17,7 @@ const USUAL: (u64, u64, u64, u64) = (100, 50, 50, 0);
 const SOLO: (u64, u64, u64, u64) = (100, 50, 50, 1);
 
 #[rustfmt::skip]
-pub const EXAMPLES: [Example; 18] = [
+pub const EXAMPLES: [Example; 21] = [
     Example { name: "P1", settings: USUAL, lines: &[
         ("21@0", "", "か", "S2"),
         ("tick@99", "", "", "S2"),
@@ -56,8 +57,30 @@ pub const EXAMPLES: [Example; 18] = [
     Example { name: "P8", settings: (100, 60, 50, 0), lines: &[
         ("21@0", "", "か", "S2"),
         ("R@30", "", "", "S4"),
-        ("24@60", "か", "ざ", "S5"),
-        ("tick@90", "ざ", "", "S1"),
+        ("24@60", "が", "<BS>がさ", "S2"),
+        ("tick@126", "", "", "S2"),
+        ("tick@127", "さ", "", "S1"),
+    ] },
+    Example { name: "P8 with 24 one ms earlier", settings: (100, 60, 50, 0), lines: &[
+        ("21@0", "", "か", "S2"),
+        ("R@30", "", "", "S4"),
+        ("24@59", "か", "ざ", "S5"),
+        ("tick@87", "", "", "S5"),
+        ("tick@88", "ざ", "", "S1"),
+    ] },
+    Example { name: "equal gaps in S5: the second thumb still has it", settings: (100, 50, 60, 1), lines: &[
+        ("R@0", "", "", "S3"),
+        ("21@30", "", "が", "S5"),
+        ("L@60", "<R>", "<BS><R>か", "S4"),
+        ("tick@89", "", "", "S4"),
+        ("tick@90", "え", "<BS>え", "S1"),
+    ] },
+    Example { name: "one ms more in S5: the first thumb", settings: (100, 50, 60, 1), lines: &[
+        ("R@0", "", "", "S3"),
+        ("21@30", "", "が", "S5"),
+        ("L@61", "が", "", "S3"),
+        ("tick@127", "", "", "S3"),
+        ("tick@128", "<L>", "<L>", "S1"),
     ] },
     Example { name: "P9", settings: SOLO, lines: &[
         ("R@0", "", "", "S3"),
