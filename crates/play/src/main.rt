@@ -2,7 +2,6 @@
 //
 // Where standard input can't be read to its end, nothing is printed, and standard error says why: what was read so far is not
 // the log. Where standard output can't be written, standard error says why, and some of the text may have been written.
-use libc::STDERR_FILENO;
 use libc::STDIN_FILENO;
 use libc::STDOUT_FILENO;
 use text::Encoded;
@@ -28,22 +27,25 @@ fn main() {
     let mut log = [0u8; 65536];
     let mut out = [0u8; 32768];
     let n = io::read_full(STDIN_FILENO, &mut log);
-    // One read more tells the end of the input from a longer log and from a read that failed.
-    let mut next = [0u8; 1];
-    let more = libc::read(STDIN_FILENO, &mut next);
-    if more < 0 {
+    // The input ends or a read failed: a read that failed leaves its reason.
+    if os::errno() != 0 {
         os::fail(b"play: standard input");
         return;
     }
-    if more == 0 {
-        let answer = report::report(&log[..n], &mut out);
-        show(answer, &out);
-        return;
+    // A full buffer: one read more tells a log that ends there from a longer one.
+    if n == 65536 {
+        let mut next = [0u8; 1];
+        let more = libc::read(STDIN_FILENO, &mut next);
+        if more < 0 {
+            os::fail(b"play: standard input");
+            return;
+        }
+        if more != 0 {
+            let answer = report::too_long(&mut out);
+            show(answer, &out);
+            return;
+        }
     }
-    if n < 65536 {
-        io::write_all(STDERR_FILENO, b"play: standard input: interrupted\n");
-        return;
-    }
-    let answer = report::too_long(&mut out);
+    let answer = report::report(&log[..n], &mut out);
     show(answer, &out);
 }
