@@ -1,9 +1,10 @@
 -- What the answers of this crate say.
+use mathlib.Core.Path.{_≡_}
 use mathlib.Core.Option.{Option, none, some}
 use Rattle.rules.specs.GivenBack as given-back
 use Rattle.rules.specs.GivenBack.{Answer}
 use Rattle.rules.specs.declared.Input.{Input}
-use Rattle.preview.specs.Views.{listed, sending-list}
+use Rattle.preview.specs.Views.{listed, sending-list, packed-sendings}
 use Rattle.engine.specs.declared.Meaning.{Meaning}
 use Rattle.engine.specs.declared.Meaning.the-variants as meaning
 use Rattle.engine.specs.declared.Verdict.{Verdict}
@@ -27,3 +28,9 @@ stepped r =
       sendings = sending-list (r .sendings);
       machine = r .machine;
     }
+
+-- What is given back is an answer, and in one form only: the number, the machine and the items by the answer itself, the sendings
+-- by their packed form.
+pub record Gives (r : Stepped) (a : Answer) : Type 0 where
+  pub answer : stepped r ≡ a
+  pub packed : r .sendings ≡ packed-sendings (a .sendings)

@@ -34,10 +34,10 @@ ghost use Rattle.rules.specs.Choice.{if_then_else_};
 ghost use Rattle.rules.specs.States.{is-key, deadline, well-formed};
 ghost use Rattle.rules.specs.OneEvent.{due-by, one-event};
 ghost use Rattle.rules.specs.GivenBack.{input, judge-stamp, judge, refusal, acceptance, step};
-ghost use Rattle.preview.specs.Views.{sending-list};
+ghost use Rattle.preview.specs.Views.{Sends};
 ghost use Rattle.effects.specs.Views.{done};
 ghost use Rattle.deadlines.specs.Capped.{deadline-at-most};
-ghost use Rattle.engine.specs.Views.{allowed, judged, stepped};
+ghost use Rattle.engine.specs.Views.{allowed, judged, Gives};
 
 // What an event gives back: the number, the items committed, what is sent, and the machine.
 pub struct Stepped {
@@ -172,7 +172,7 @@ fn one_event(s: Settings, now: Stamp, resting: Resting, input: Input) -> Effect
 
 fn accepted(machine: Machine, now: Stamp, input: Input) -> Stepped
     requires { ⌜ well-formed machine ≡ true ⌝ }
-    ensures { λ r. ⌜ stepped r ≡ acceptance machine now (one-event (machine .settings) now (machine .resting) input) ⌝ }
+    ensures { λ r. ⌜ Gives r (acceptance machine now (one-event (machine .settings) now (machine .resting) input)) ⌝ }
 {
     let s = machine.settings;
     let resting = machine.resting;
@@ -192,7 +192,7 @@ fn accepted(machine: Machine, now: Stamp, input: Input) -> Stepped
 }
 
 fn nothing_sent() -> Sendings
-    ensures { λ r. ⌜ sending-list r ≡ [] ⌝ }
+    ensures { λ r. ⌜ Sends r [] ⌝ }
 {
     Sendings {
         backspace: false,
@@ -206,7 +206,7 @@ fn nothing_sent() -> Sendings
 
 // Nothing committed, nothing sent, the machine as given.
 fn refused(machine: Machine, number: u8) -> Stepped
-    ensures { λ r. ⌜ stepped r ≡ refusal machine number ⌝ }
+    ensures { λ r. ⌜ Gives r (refusal machine number) ⌝ }
 {
     let sendings = nothing_sent();
     Stepped {
@@ -219,7 +219,7 @@ fn refused(machine: Machine, number: u8) -> Stepped
 
 // One event of any kind, key and stamp, at any machine.
 pub fn step(machine: Machine, event: Event) -> Stepped
-    ensures { λ r. ⌜ stepped r ≡ step machine event ⌝ }
+    ensures { λ r. ⌜ Gives r (step machine event) ⌝ }
 {
     let now = event.stamp;
     match judge(machine, event) {

@@ -2,8 +2,11 @@
 use Prim.Native.Nat.{ℕ}
 use mathlib.Core.Bool.{Bool, true, false}
 use mathlib.Core.List.{List, [], _∷_, _++_}
+use mathlib.Core.Path.{_≡_}
+use lib.ListN.{getD}
 use Rattle.rules.specs.Choice.{if_then_else_}
-use Rattle.rules.specs.ZeroDelay.{sign-unless-0, Sending, backspace, send}
+use Rattle.rules.specs.ZeroDelay.{sign-unless-0, Sending, backspace, sign, send}
+use Rattle.rules.specs.Sequences.{signs-among}
 use Rattle.rules.specs.declared.Item.{Item}
 use Rattle.preview.specs.declared.Items.{Items}
 use Rattle.preview.specs.declared.Items.the-variants.{None, One, Two}
@@ -19,10 +22,29 @@ listed (Two i j) = i ∷ j ∷ []
 abbrev pub sign-list : Signs → List ℕ
 sign-list q = sign-unless-0 (q .first) ++ sign-unless-0 (q .second) ++ sign-unless-0 (q .third)
 
-abbrev pub first-or-0 : List ℕ → ℕ
-first-or-0 [] = 0
-first-or-0 (c ∷ q) = c
+-- signs packed to the front, 0 behind the last: the one form in which a list of signs is answered
+abbrev pub packed : List ℕ → Signs
+packed l = record { first = getD l 0 0; second = getD l 1 0; third = getD l 2 0 }
+
+-- signs that are a list: in its one form, and read back
+pub record Holds (q : Signs) (l : List ℕ) : Type 0 where
+  pub form : q ≡ packed l
+  pub list : sign-list q ≡ l
 
 -- the backspace, if there is one, then the signs
 abbrev pub sending-list : Sendings → List Sending
 sending-list r = (if r .backspace then (backspace ∷ []) else []) ++ send (sign-list (r .signs))
+
+abbrev pub begins-with-backspace : List Sending → Bool
+begins-with-backspace [] = false
+begins-with-backspace (backspace ∷ l) = true
+begins-with-backspace (sign c ∷ l) = false
+
+-- the one form in which a list of sendings is answered
+abbrev pub packed-sendings : List Sending → Sendings
+packed-sendings l = record { backspace = begins-with-backspace l; signs = packed (signs-among l) }
+
+-- sendings that are a list: in its one form, and read back
+pub record Sends (r : Sendings) (l : List Sending) : Type 0 where
+  pub form : r ≡ packed-sendings l
+  pub list : sending-list r ≡ l

@@ -5,9 +5,8 @@ use rules::Resting;
 use rules::Thumb;
 ghost use mathlib.Core.Path.{_≡_};
 ghost use mathlib.Core.List.{_++_};
-ghost use lib.ListN.{drop};
 ghost use Rattle.rules.specs.ZeroDelay.{sign-unless-0, mark-word, sign-of, signs, shown, sent};
-ghost use Rattle.preview.specs.Views.{listed, sign-list, first-or-0, sending-list};
+ghost use Rattle.preview.specs.Views.{listed, sign-list, packed, Holds, Sends};
 
 // The items that a step commits, in order.
 pub enum Items {
@@ -16,8 +15,8 @@ pub enum Items {
     Two(Item, Item),
 }
 
-// Up to three signs as words, in order: a character's code point, 1 for the left mark, 2 for the right one, 0 where there
-// is none.
+// Up to three signs as words, in order: a character's code point, 1 for the left mark, 2 for the right one. They are packed to
+// the front, 0 behind the last.
 pub struct Signs {
     pub first: u16,
     pub second: u16,
@@ -50,7 +49,7 @@ pub fn word(item: Item) -> u16
 }
 
 // The character that is shown while a resting state waits, 0 for none.
-pub fn shown_word(resting: Resting) -> u16
+fn shown_word(resting: Resting) -> u16
     ensures { λ r. ⌜ sign-unless-0 r ≡ shown resting ⌝ }
 {
     match resting {
@@ -63,70 +62,49 @@ pub fn shown_word(resting: Resting) -> u16
     }
 }
 
+// Three words in their places.
+fn in_places(first: u16, second: u16, third: u16) -> Signs
+    ensures { λ r. ⌜ r ≡ record { first = first; second = second; third = third } ⌝ }
+{
+    Signs {
+        first: first,
+        second: second,
+        third: third,
+    }
+}
+
+// Three words, of which 0 is no sign, as signs.
+fn packed(first: u16, second: u16, third: u16) -> Signs
+    ensures { λ r. ⌜ Holds r (sign-unless-0 first ++ sign-unless-0 second ++ sign-unless-0 third) ⌝ }
+{
+    if first == 0 {
+        if second == 0 {
+            return in_places(third, 0, 0);
+        }
+        return in_places(second, third, 0);
+    }
+    if second == 0 {
+        return in_places(first, third, 0);
+    }
+    in_places(first, second, third)
+}
+
 // The signs of a step: those of its items, then what is shown after it.
 fn step_signs(items: Items, after: Resting) -> Signs
-    ensures { λ r. ⌜ sign-list r ≡ signs (listed items) ++ shown after ⌝ }
+    ensures { λ r. ⌜ Holds r (signs (listed items) ++ shown after) ⌝ }
 {
-    let third = shown_word(after);
+    let last = shown_word(after);
     match items {
-        Items::None => Signs {
-            first: 0,
-            second: 0,
-            third: third,
-        },
-        Items::One(item) => Signs {
-            first: word(item),
-            second: 0,
-            third: third,
-        },
-        Items::Two(item, other) => Signs {
-            first: word(item),
-            second: word(other),
-            third: third,
-        },
-    }
-}
-
-// The first sign, 0 where there is none.
-fn first_sign(q: Signs) -> u16
-    ensures { λ r. ⌜ r ≡ first-or-0 (sign-list q) ⌝ }
-{
-    if q.first != 0 {
-        return q.first;
-    }
-    if q.second != 0 {
-        return q.second;
-    }
-    q.third
-}
-
-fn without_first(q: Signs) -> Signs
-    ensures { λ r. ⌜ sign-list r ≡ drop 1 (sign-list q) ⌝ }
-{
-    if q.first != 0 {
-        return Signs {
-            first: 0,
-            second: q.second,
-            third: q.third,
-        };
-    }
-    if q.second != 0 {
-        return Signs {
-            first: 0,
-            second: 0,
-            third: q.third,
-        };
-    }
-    Signs {
-        first: 0,
-        second: 0,
-        third: 0,
+        Items::None => packed(0, 0, last),
+        Items::One(item) => packed(word(item), 0, last),
+        Items::Two(item, other) => packed(word(item), word(other), last),
     }
 }
 
 // What is sent where p was shown (0 for nothing) and the signs q follow: a p that q begins with stays, any other is taken back.
 fn instead_of(p: u16, q: Signs) -> Sendings
-    ensures { λ r. ⌜ sending-list r ≡ sent (sign-unless-0 p) (sign-list q) ⌝ }
+    requires { ⌜ q ≡ packed (sign-list q) ⌝ }
+    ensures { λ r. ⌜ Sends r (sent (sign-unless-0 p) (sign-list q)) ⌝ }
 {
     if p == 0 {
         return Sendings {
@@ -134,10 +112,10 @@ fn instead_of(p: u16, q: Signs) -> Sendings
             signs: q,
         };
     }
-    if p == first_sign(q) {
+    if p == q.first {
         return Sendings {
             backspace: false,
-            signs: without_first(q),
+            signs: in_places(q.second, q.third, 0),
         };
     }
     Sendings {
@@ -148,7 +126,7 @@ fn instead_of(p: u16, q: Signs) -> Sendings
 
 // What a step sends that commits items and goes from one resting state to another.
 pub fn sent(before: Resting, items: Items, after: Resting) -> Sendings
-    ensures { λ r. ⌜ sending-list r ≡ sent (shown before) (signs (listed items) ++ shown after) ⌝ }
+    ensures { λ r. ⌜ Sends r (sent (shown before) (signs (listed items) ++ shown after)) ⌝ }
 {
     instead_of(shown_word(before), step_signs(items, after))
 }

@@ -2,3 +2,4 @@ pub mod Copying
 pub mod Places
 pub mod Statuses
 pub mod Reporting
+pub mod Room

@@ -18,7 +18,7 @@ use Rattle.report.specs.Decimal.{decimal}
 abbrev pub longest-log : ℕ
 longest-log = 65536
 
--- room for the words of every log that fits the buffer: two words for each 13 bytes
+-- room for the words of every log that fits the buffer: two words for each 13 bytes, rounded up (Room.antt)
 abbrev pub room : ℕ
 room = 10083
 

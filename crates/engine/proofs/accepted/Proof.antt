@@ -9,4 +9,6 @@ accepted-spec =
     (tie.spec
     (λ c κs. well-formed-deadline _ (c .before .pre))
     (λ c κs. tt)
-    (λ c. rw (← c .before .one-event .ensures, ← c .sent .ensures)))
+    (λ c.
+    rw (← c .before .one-event .ensures)
+    (let sent = c .sent .ensures in record { answer = rw (sent .list); packed = sent .form })))

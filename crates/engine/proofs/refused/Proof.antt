@@ -7,4 +7,4 @@ refused-spec =
     tie.close
     (tie.spec
     (λ c κs. tt)
-    (λ c. rw (c .nothing-sent .ensures)))
+    (λ c. let sent = c .nothing-sent .ensures in record { answer = rw (sent .list); packed = sent .form }))

@@ -17,5 +17,5 @@ step-spec =
     (λ c κs. tt)
     (λ c. search needs)
     (λ c κs. accepts-well-formed _ _ _ (sym (c .before .before .before .judge .ensures) ∙ ap judged (c .before .meant .given .1)))
-    (λ c. rw (← c .before .before .before .before .judge .ensures, c .before .before .number .given .1, ← c .refused .ensures))
-    (λ c. rw (← c .before .before .before .before .judge .ensures, c .before .before .meant .given .1, ← c .accepted .ensures)))
+    (λ c. rw (← c .before .before .before .before .judge .ensures, c .before .before .number .given .1) (c .refused .ensures))
+    (λ c. rw (← c .before .before .before .before .judge .ensures, c .before .before .meant .given .1) (c .accepted .ensures)))

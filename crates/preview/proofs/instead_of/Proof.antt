@@ -1,8 +1,9 @@
 -- `preview::instead_of` meets its contract.
-use borrow.Author.Needs.{needs}
+use mathlib.Core.Path.{refl, ap, _∙_}
 use borrow.Author.Tests.{eq-eqb}
 use Rattle.rules.specs.ZeroDelay.{sent}
-use Rattle.preview.proofs.Laws.{kept, taken-back}
+use Rattle.preview.specs.declared.Signs.{Signs}
+use Rattle.preview.proofs.Laws.{kept, taken-back, plainly, with-backspace, behind-first}
 use Rattle.preview.proofs.instead_of.Statement.{statement}
 use Rattle.preview.proofs.instead_of.Tie as tie
 
@@ -11,10 +12,15 @@ unfolding sent
 instead-of-spec =
     tie.close
     (tie.spec
-    (λ c. search (eq-eqb, needs))
-    (λ c κs. search needs)
-    (λ c κs. search needs)
+    (λ c. rw (eq-eqb _ 0 (c .if1 .taken)) (plainly (record { form = c .before .pre; list = refl })))
+    (λ c κs. tt)
     (λ c.
-    rw (c .without-first .ensures)
-    (kept _ _ (c .before .before .before .if1 .left) (rw (c .before .before .first-sign .ensures) at (c .before .if2 .taken))))
-    (λ c. taken-back _ _ (c .before .before .if1 .left) (rw (c .before .first-sign .ensures) at (c .if2 .left))))
+    let shown = c .before .before .before .if1 .left in
+    let same = c .before .if2 .taken in
+    let form = c .before .before .before .before .pre in
+    rw (c .in-places .ensures, ← kept _ _ shown (same ∙ ap (λ (x : Signs). x .first) form))
+    (plainly (behind-first _ form (λ z. shown (same ∙ z)))))
+    (λ c.
+    let form = c .before .before .before .pre in
+    rw (← taken-back _ _ (c .before .before .if1 .left) (rw (ap (λ (x : Signs). x .first) form) at (c .if2 .left)))
+    (with-backspace (record { form = form; list = refl }))))

@@ -10,18 +10,14 @@ step-signs-spec =
     (tie.spec
     (λ c κs. search needs)
     (λ c. search needs)
-    (λ c. search needs)
     (λ c κs. search needs)
     (λ c. search needs)
     (λ c κs. search needs)
     (λ c κs. search needs)
-    (λ c. rw (← c .before .before .shown-word .ensures, c .enum-told .given .1))
-    (λ c. rw (← c .before .before .before .before .shown-word .ensures, c .before .before .items .given .1, ← c .word .ensures))
-    (λ c.
-    rw (
-      ← c .before .before .before .before .before .shown-word .ensures,
-      c .before .before .before .items2 .given .1,
-      ← c .before .word2 .ensures,
-      ← c .word3 .ensures,
-      append-nil,
-    )))
+    (λ c. search needs)
+    (λ c κs. search needs)
+    (λ c κs. search needs)
+    (λ c κs. search needs)
+    (λ c. rw (← c .before .before .before .shown-word .ensures, c .before .enum-told .given .1) (c .packed .ensures))
+    (λ c. rw (← c .before .before .before .before .before .shown-word .ensures, c .before .before .before .items .given .1, ← c .before .word .ensures) (c .packed2 .ensures))
+    (λ c. rw (← c .before .before .before .before .before .before .shown-word .ensures, c .before .before .before .before .items2 .given .1, ← c .before .before .word2 .ensures, ← c .before .word3 .ensures, append-nil) (c .packed3 .ensures)))
