@@ -1,8 +1,16 @@
 -- What the answers of this crate say.
-use mathlib.Core.Path.{_≡_}
+use Prim.Native.Nat.{ℕ}
+use mathlib.Core.List.{List}
 use mathlib.Core.Option.{Option, none, some}
+use mathlib.Core.Path.{_≡_}
+use lib.Dec.{eqb}
+use Rattle.rules.specs.Choice.{if_then_else_}
+use Rattle.rules.specs.OneEvent.{Done}
 use Rattle.rules.specs.GivenBack as given-back
-use Rattle.rules.specs.GivenBack.{Answer}
+use Rattle.rules.specs.GivenBack.{Answer, acceptance}
+use Rattle.rules.specs.declared.Stamp.{Stamp}
+use Rattle.rules.specs.declared.Machine.{Machine}
+use Rattle.rules.specs.declared.Item.{Item}
 use Rattle.rules.specs.declared.Input.{Input}
 use Rattle.preview.specs.Views.{listed, sending-list, packed-sendings}
 use Rattle.engine.specs.declared.Meaning.{Meaning}
@@ -10,6 +18,8 @@ use Rattle.engine.specs.declared.Meaning.the-variants as meaning
 use Rattle.engine.specs.declared.Verdict.{Verdict}
 use Rattle.engine.specs.declared.Verdict.the-variants.{Refused, Accepted}
 use Rattle.engine.specs.declared.Stepped.{Stepped}
+use Rattle.engine.specs.declared.Change.{Change}
+use Rattle.engine.specs.declared.Taken as Taken
 
 abbrev pub allowed : Meaning → Option Input
 allowed meaning.None = none
@@ -34,3 +44,20 @@ stepped r =
 pub record Gives (r : Stepped) (a : Answer) : Type 0 where
   pub answer : stepped r ≡ a
   pub packed : r .sendings ≡ packed-sendings (a .sendings)
+
+-- the items of an accepted event, and the machine after it
+pub record Changes (r : Change) (m : Machine) (now : Stamp) (d : Done) : Type 0 where
+  pub same-items : listed (r .items) ≡ d .items
+  pub same-machine : r .machine ≡ acceptance m now d .machine
+
+-- an answer apart from what is sent: refused with a number, or the items and the machine
+pub data Kept : Type 0 where
+  refused : ℕ → Kept
+  accepted : List Item → Machine → Kept
+
+abbrev pub apart-from-sent : Answer → Kept
+apart-from-sent a = if eqb (a .number) 0 then accepted (a .items) (a .machine) else refused (a .number)
+
+abbrev pub taken : Taken.Taken → Kept
+taken (Taken.the-variants.Refused n) = refused n
+taken (Taken.the-variants.Accepted i m) = accepted (listed i) m

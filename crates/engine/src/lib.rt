@@ -19,6 +19,7 @@ use rules::Settings;
 use rules::Stamp;
 use rules::Thumb;
 use states::act;
+use states::in_s1;
 use states::late;
 use waits::at_or_before;
 use waits::before;
@@ -37,7 +38,7 @@ ghost use Rattle.rules.specs.GivenBack.{input, judge-stamp, judge, refusal, acc
 ghost use Rattle.preview.specs.Views.{Sends};
 ghost use Rattle.effects.specs.Views.{done};
 ghost use Rattle.deadlines.specs.Capped.{deadline-at-most};
-ghost use Rattle.engine.specs.Views.{allowed, judged, Gives};
+ghost use Rattle.engine.specs.Views.{allowed, judged, Changes, Gives, taken, apart-from-sent};
 
 // What an event gives back: the number, the items committed, what is sent, and the machine.
 pub struct Stepped {
@@ -45,6 +46,18 @@ pub struct Stepped {
     pub items: Items,
     pub sendings: Sendings,
     pub machine: Machine,
+}
+
+// What an event gives back apart from what is sent: it is refused with a number, or commits items and leaves a machine.
+pub enum Taken {
+    Refused(u8),
+    Accepted(Items, Machine),
+}
+
+// What an accepted event does.
+struct Change {
+    items: Items,
+    machine: Machine,
 }
 
 // An event's kind and key as an input, if they are allowed.
@@ -151,7 +164,7 @@ fn is_due(s: Settings, now: Stamp, resting: Resting) -> bool
     }
 }
 
-// First what is late, then the event acts. What is late leaves a state that commits nothing, so its items are all.
+// First what is late, then the event acts. What is late leaves S1, which commits nothing, so its items are all.
 fn one_event(s: Settings, now: Stamp, resting: Resting, input: Input) -> Effect
     requires { ⌜ deadline-at-most s resting ≡ deadline s resting ⌝ }
     ensures { λ r. ⌜ done r ≡ one-event s now resting input ⌝ }
@@ -159,8 +172,7 @@ fn one_event(s: Settings, now: Stamp, resting: Resting, input: Input) -> Effect
     if is_due(s, now, resting) {
         let first = late(s, resting);
         let items = first.items;
-        let left = first.resting;
-        let second = act(s, now, left, input);
+        let second = in_s1(now, input);
         let next = second.resting;
         return Effect {
             items: items,
@@ -170,24 +182,40 @@ fn one_event(s: Settings, now: Stamp, resting: Resting, input: Input) -> Effect
     act(s, now, resting, input)
 }
 
-fn accepted(machine: Machine, now: Stamp, input: Input) -> Stepped
+// What an accepted event commits, and the machine after it.
+fn carry_out(machine: Machine, now: Stamp, input: Input) -> Change
     requires { ⌜ well-formed machine ≡ true ⌝ }
-    ensures { λ r. ⌜ Gives r (acceptance machine now (one-event (machine .settings) now (machine .resting) input)) ⌝ }
+    ensures { λ r. ⌜ Changes r machine now (one-event (machine .settings) now (machine .resting) input) ⌝ }
 {
     let s = machine.settings;
     let resting = machine.resting;
     let effect = one_event(s, now, resting, input);
     let committed = effect.items;
     let next = effect.resting;
-    Stepped {
-        number: 0,
+    Change {
         items: committed,
-        sendings: sent(resting, committed, next),
         machine: Machine {
             settings: s,
             resting: next,
             last: now,
         },
+    }
+}
+
+fn accepted(machine: Machine, now: Stamp, input: Input) -> Stepped
+    requires { ⌜ well-formed machine ≡ true ⌝ }
+    ensures { λ r. ⌜ Gives r (acceptance machine now (one-event (machine .settings) now (machine .resting) input)) ⌝ }
+{
+    let resting = machine.resting;
+    let done = carry_out(machine, now, input);
+    let items = done.items;
+    let after = done.machine;
+    let next = after.resting;
+    Stepped {
+        number: 0,
+        items: items,
+        sendings: sent(resting, items, next),
+        machine: after,
     }
 }
 
@@ -225,5 +253,21 @@ pub fn step(machine: Machine, event: Event) -> Stepped
     match judge(machine, event) {
         Verdict::Refused(number) => refused(machine, number),
         Verdict::Accepted(meant) => accepted(machine, now, meant),
+    }
+}
+
+// The same apart from what is sent, for a caller that shows nothing.
+pub fn take(machine: Machine, event: Event) -> Taken
+    ensures { λ r. ⌜ taken r ≡ apart-from-sent (step machine event) ⌝ }
+{
+    let now = event.stamp;
+    match judge(machine, event) {
+        Verdict::Refused(number) => Taken::Refused(number),
+        Verdict::Accepted(meant) => {
+            let done = carry_out(machine, now, meant);
+            let items = done.items;
+            let after = done.machine;
+            Taken::Accepted(items, after)
+        }
     }
 }

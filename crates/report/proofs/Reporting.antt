@@ -1,5 +1,5 @@
 -- What is printed of a log, put together from its parts, and the room that it takes.
-use Prim.Native.Nat.{ℕ, _+_, _*_, _≤_, _<_}
+use Prim.Native.Nat.{ℕ, _≤_, _<_}
 use native.Mathlib.Omega.{arith}
 use native.Mathlib.Nat.{zero-add}
 use borrow.Author.Tests.{lt-ltb, le-ltb, le-leb, lt-leb}
@@ -7,9 +7,9 @@ use mathlib.Core.Bool.{true, false}
 use mathlib.Core.Path.{_≡_, refl, sym, ap, _∙_}
 use mathlib.Core.List.{List, [], _∷_, _++_}
 use mathlib.Core.Option.{Option, none, some, Option·some-injective, Option·none-ne-some}
-use lib.Dec.{leb, ltb}
-use lib.ListN.{length, take, drop}
-use lib.Seq.{take-at, take-append-seam}
+use lib.Dec.{leb}
+use lib.ListN.{length, take}
+use lib.Seq.{take-append-seam}
 use Rattle.rules.specs.Sequences.{waiting}
 use Rattle.rules.specs.declared.Resting.{Resting}
 use Rattle.rules.specs.declared.Resting.the-variants.{S1, S2, S3, S4, S5, S6}
@@ -17,13 +17,13 @@ use Rattle.rules.specs.declared.Machine.{Machine}
 use Rattle.runs.specs.Filled.{filled, Stored}
 use Rattle.runs.proofs.Filling.{stored-both}
 use Rattle.text.specs.Text.{ascii, text, Encodes}
-use Rattle.text.specs.declared.Encoded.{Encoded}
 use Rattle.text.specs.declared.Encoded.the-variants.{Full, Bytes}
 use Rattle.text.proofs.Signs.{text-short}
 use Rattle.keylog.specs.Reader.{read, waiting-of, answer-of}
 use Rattle.keylog.specs.Runs.{as-it-is, encoded, Reads}
 use Rattle.keylog.specs.declared.LogAnswer.{LogAnswer}
-use Rattle.keylog.proofs.Room.{Enough, enough-room}
+use Rattle.keylog.specs.Facts.{Enough}
+use Rattle.keylog.proofs.Room.{enough-room}
 use Rattle.report.specs.Printed.{room, line-end, status, status-of, printed, Reports}
 
 -- what is stored at a run's front fills it

@@ -6,7 +6,7 @@ use native.Mathlib.Omega.{arith}
 use mathlib.Core.Path.{_≡_, sym, ap, _∙_}
 use mathlib.Core.List.{List, [], _∷_, _++_, append-assoc}
 use lib.ListN.{length, take, drop, set, length-append, length-drop}
-use lib.Seq.{length-take-le, take-at, take-append-seam, drop-append-add, drop-drop, sets, sets-eq}
+use lib.Seq.{length-take-le, take-at, take-append-seam, drop-append-add, drop-drop, sets-eq}
 use Rattle.runs.specs.Filled.{filled, Stored}
 
 -- filled with a, and b stored behind it: filled with both

@@ -40,7 +40,7 @@ pub fn late(s: Settings, resting: Resting) -> Effect
     }
 }
 
-fn in_s1(now: Stamp, input: Input) -> Effect
+pub fn in_s1(now: Stamp, input: Input) -> Effect
     ensures { λ r. ⌜ done r ≡ in-S1 now input ⌝ }
 {
     match input {

@@ -1,5 +1,5 @@
 -- Laws of the text of words: by which form a word goes, and a line that grows by a word.
-use Prim.Native.Nat.{ℕ, suc, _+_, _*_, _/_, _%_, _≤_, _<_}
+use Prim.Native.Nat.{ℕ, _+_, _*_, _/_, _%_, _≤_, _<_}
 use native.Mathlib.Numerals.{add-one}
 use native.Mathlib.Omega.{arith}
 use borrow.Author.Tests.{lt-ltb, le-ltb, eq-eqb, ne-eqb, le-leb, lt-leb}
@@ -8,7 +8,7 @@ use mathlib.Core.Path.{_≡_, refl, sym, ap, _∙_}
 use mathlib.Core.List.{List, [], _∷_, _++_, append-assoc, append-nil}
 use lib.Dec.{ltb, leb, eqb}
 use lib.ListN.{length, take, drop, getD, length-append, take-append-drop}
-use lib.Seq.{take-suc, take-all, drop-cons}
+use lib.Seq.{take-suc, take-all}
 use Rattle.rules.proofs.Choices.{both-ways}
 use Rattle.runs.specs.Filled.{filled, Stored}
 use Rattle.runs.proofs.Filling.{filled-more, length-filled}

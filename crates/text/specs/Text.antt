@@ -1,6 +1,6 @@
 -- Document 01, section "Log": the line as the program prints it, marks as `<L>` and `<R>`, in UTF-8.
 use Prim.Native.Nat.{ℕ}
-use Prim.Native.Char.{Char, code}
+use Prim.Native.Char.{code}
 use Prim.Native.String.{String, [] as end-of-text, _∷_ as _followed-by_}
 use mathlib.Core.Bool.{Bool}
 use mathlib.Core.List.{List, [], _∷_, _++_}

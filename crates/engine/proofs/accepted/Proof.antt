@@ -1,5 +1,4 @@
 -- `engine::accepted` meets its contract.
-use Rattle.deadlines.proofs.Formed.{well-formed-deadline}
 use Rattle.engine.proofs.accepted.Statement.{statement}
 use Rattle.engine.proofs.accepted.Tie as tie
 
@@ -7,8 +6,12 @@ pub accepted-spec : {M : Type 1} → statement M
 accepted-spec =
     tie.close
     (tie.spec
-    (λ c κs. well-formed-deadline _ (c .before .pre))
+    (λ c κs. c .pre)
     (λ c κs. tt)
     (λ c.
-    rw (← c .before .one-event .ensures)
-    (let sent = c .sent .ensures in record { answer = rw (sent .list); packed = sent .form })))
+    let d = c .before .before .carry-out .ensures in
+    let sent = c .sent .ensures in
+    record {
+      answer = rw (sent .list, d .same-items, d .same-machine);
+      packed = rw (d .same-items, d .same-machine) at (sent .form);
+    }))

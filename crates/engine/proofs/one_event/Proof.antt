@@ -16,9 +16,9 @@ one-event-spec =
     rw (
       late-first _ _ _ _ (sym (rw (d .before .pre) at (d .is-due .ensures)) ∙ c .before .before .if1 .taken),
       ← c .before .late .ensures,
-      ← c .act .ensures,
+      ← c .in-s1 .ensures,
     ))
     (λ c κs. tt)
     (λ c.
     let d = c .before .before in
-    rw (not-late _ _ _ _ (sym (rw (d .before .pre) at (d .is-due .ensures)) ∙ c .before .if1 .left), ← c .act2 .ensures)))
+    rw (not-late _ _ _ _ (sym (rw (d .before .pre) at (d .is-due .ensures)) ∙ c .before .if1 .left), ← c .act .ensures)))

@@ -1,3 +1,4 @@
+-- `report::put_bytes` meets its contract: the bytes passed are copied (`Copying`).
 use borrow.Author.Needs.{needs}
 use Prim.Native.Nat.{_-_}
 use native.Mathlib.Omega.{arith}

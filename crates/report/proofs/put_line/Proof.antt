@@ -1,3 +1,4 @@
+-- `report::put_line` meets its contract.
 use borrow.Author.Needs.{needs}
 use Rattle.report.proofs.Reporting.{line-stored, line-fits}
 use Rattle.report.proofs.put_line.Statement.{statement}

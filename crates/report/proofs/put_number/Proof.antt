@@ -1,3 +1,4 @@
+-- `report::put_number` meets its contract.
 use borrow.Author.Needs.{needs}
 use Rattle.report.proofs.Places.{stored-decimal, decimal-fits}
 use Rattle.report.proofs.put_number.Statement.{statement}

@@ -1,3 +1,4 @@
+-- `report::too_long` meets its contract.
 use borrow.Author.Needs.{needs}
 use native.Mathlib.Omega.{arith}
 use Rattle.report.proofs.Reporting.{too-short, too-long}

@@ -1,3 +1,4 @@
+-- `text::encode` meets its contract: the run is filled with the text of the words passed (`Writing`).
 use borrow.Author.Needs.{needs}
 use Prim.Native.Nat.{_-_}
 use lib.ListN.{length}

@@ -1,3 +1,4 @@
+-- `text::put` meets its contract.
 use borrow.Author.Needs.{needs}
 use Rattle.text.proofs.Signs.{sign-left, sign-right, sign-other, stored-as}
 use Rattle.text.proofs.put.Statement.{statement}

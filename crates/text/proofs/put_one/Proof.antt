@@ -1,5 +1,5 @@
+-- `text::put_one` meets its contract.
 use borrow.Author.Needs.{needs}
-use native.Mathlib.Omega.{arith}
 use lib.ListN.{length-set}
 use Rattle.runs.proofs.Filling.{stored-1}
 use Rattle.text.proofs.put_one.Statement.{statement}

@@ -1,3 +1,4 @@
+-- `text::put_two` meets its contract.
 use borrow.Author.Needs.{needs}
 use native.Mathlib.Omega.{arith}
 use lib.ListN.{length-set}

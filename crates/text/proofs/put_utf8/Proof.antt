@@ -1,5 +1,5 @@
+-- `text::put_utf8` meets its contract.
 use borrow.Author.Needs.{needs}
-use native.Mathlib.Omega.{arith}
 use Rattle.text.proofs.Signs.{utf8-one, utf8-two, utf8-three, stored-as}
 use Rattle.text.proofs.put_utf8.Statement.{statement}
 use Rattle.text.proofs.put_utf8.Tie as tie

@@ -1,7 +1,7 @@
+-- `text::size` meets its contract: what is counted is the text of the words passed.
 use borrow.Author.Needs.{needs}
-use Prim.Native.Nat.{_≤_, _*_, _-_, _+_}
-use native.Mathlib.Omega.{arith}
-use mathlib.Core.Path.{_≡_, refl, _∙_}
+use Prim.Native.Nat.{_≤_, _*_, _-_}
+use mathlib.Core.Path.{_≡_}
 use lib.ListN.{length, take}
 use Rattle.text.specs.Text.{text}
 use Rattle.text.proofs.Signs.{counted-more, counted-all}

@@ -1,3 +1,4 @@
+-- `text::width` meets its contract.
 use borrow.Author.Needs.{needs}
 use Rattle.text.proofs.Signs.{sign-left, sign-right, sign-other, utf8-one, utf8-two, utf8-three}
 use Rattle.text.proofs.width.Statement.{statement}
