@@ -1,0 +1,2 @@
+pub mod PlaceFacts
+pub mod Table

@@ -1,0 +1,22 @@
+-- `lookup::find` meets its contract: the two full-width signs are computed, what lies outside the table is on no face, and an entry
+-- of the table says what it was made of.
+use borrow.Author.Needs.{needs}
+use Rattle.rules.specs.Layout.{table}
+use Rattle.lookup.specs.Places.{place-of}
+use Rattle.lookup.proofs.Table.{in-table, below-table, above-table}
+use Rattle.lookup.proofs.find.Statement.{statement}
+use Rattle.lookup.proofs.find.Tie as tie
+
+pub find-spec : {M : Type 1} → statement M
+unfolding place-of table
+find-spec =
+    tie.close
+    (tie.spec
+    (λ c. rw (c .if1 .taken))
+    (λ c. rw (c .if2 .taken))
+    (λ c. below-table _ (c .before .before .if1 .left) (c .before .if2 .left) (c .if3 .taken))
+    (λ c. above-table _ (c .before .before .before .if1 .left) (c .before .before .if2 .left) (c .if4 .taken))
+    (λ c. search needs)
+    (λ c κs. search needs)
+    (λ c κs. search needs)
+    (λ c. in-table (c .before .before .before .before .before .before .args .c) _ _ (c .before .before .before .if3 .left) (c .before .entry .ensures) (c .place-at .ensures)))
