@@ -1,0 +1,9 @@
+use Rattle.decode.proofs.sequence.both.Statement.{statement}
+use Rattle.decode.proofs.sequence.both.Tie as tie
+
+pub both-spec : {M : Type 1} → statement M
+both-spec =
+    tie.close
+    (tie.spec
+    (λ c. rw (c .if1 .taken))
+    (λ c. rw (c .if1 .left)))
