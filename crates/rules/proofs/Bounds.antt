@@ -25,7 +25,7 @@ pub FL-mono : (s : Settings) → InRange s → (x y : ℕ) → x ≤ y → FL s 
 unfolding FL
 FL-mono s r x y h = up-mono _ _ _ (omega arith) (mul-le-mul-right (s .l) h)
 
-A-positive : (s : Settings) → InRange s → 1 ≤ A s
+pub A-positive : (s : Settings) → InRange s → 1 ≤ A s
 unfolding A
 A-positive s r =
     up-positive _ _ (omega arith) (mul-le-mul {n₁ = 1} {m₁ = 1} (omega arith) (omega arith))

@@ -65,7 +65,7 @@ typed-sent l (c ∷ p) (d ∷ q) =
     ∙ ap (λ (k : List ℕ). typed k (send (d ∷ q))) (typed-take-back l (c ∷ p) (c ∷ p) refl)
     ∙ typed-send l (d ∷ q))
 
-signs-append : (a b : List Item) → signs (a ++ b) ≡ signs a ++ signs b
+pub signs-append : (a b : List Item) → signs (a ++ b) ≡ signs a ++ signs b
 signs-append [] b = refl
 signs-append (i ∷ a) b =
     ap (λ (l : List ℕ). sign-of i ++ l) (signs-append a b) ∙ sym (append-assoc (sign-of i) (signs a) (signs b))

@@ -5,7 +5,7 @@ use mathlib.Core.List.{List, [], _∷_}
 use mathlib.Core.Option.{Option, none, some}
 use mathlib.Core.Path.{_≡_, refl, sym, subst}
 use lib.Dec.{eqb, ltb}
-use borrow.Author.Tests.{ltb-true, ltb-false, eqb-true}
+use borrow.Author.Tests.{ltb-true, ltb-false, le-ltb, eqb-true}
 use Rattle.rules.specs.Choice.{if_then_else_}
 use Rattle.rules.specs.Numbers.{keys, largest-stamp, within}
 use Rattle.rules.specs.States.{is-key, well-formed}
@@ -122,3 +122,10 @@ step-cases P m e no-way yes-way =
           not-above = ltb-false _ _ low;
           not-before = ltb-false _ _ late;
         })))
+
+-- an event that passes every test is accepted
+pub step-accepted : (m : Machine) (e : Event) (i : Input) → well-formed m ≡ true → input (e .kind) (e .key) ≡ some i
+    → e .stamp .0 ≤ largest-stamp → m .last .0 ≤ e .stamp .0
+    → step m e ≡ acceptance m (e .stamp) (one-event (m .settings) (e .stamp) (m .resting) i)
+unfolding step judge
+step-accepted m e i w h low late = rw (w, h, le-ltb largest-stamp (e .stamp .0) low, le-ltb (e .stamp .0) (m .last .0) late)

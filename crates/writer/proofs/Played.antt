@@ -1,0 +1,161 @@
+-- What the machine does at the strokes of one character: from nothing resting to nothing resting, and the character is committed.
+use Prim.Native.Nat.{_+_, _-_, _^_, _≤_, _<_}
+use native.Mathlib.Nat.{div-eq-of-lt, sub-self, zero-mul}
+use native.Mathlib.Omega.{arith}
+use mathlib.Core.Bool.{true}
+use mathlib.Core.List.{List, [], _∷_, _++_, append-assoc}
+use mathlib.Core.Option.{some}
+use mathlib.Core.Path.{_≡_, refl, sym, _∙_, ap, subst}
+use borrow.Author.Tests.{lt-ltb, le-leb, lt-leb, eq-eqb}
+use Rattle.rules.specs.Numbers.{keys, largest-stamp, in-range, up, A, FJ}
+use Rattle.rules.specs.States.{well-formed}
+use Rattle.rules.specs.OneEvent.{Done, _leaving_, nothing, plain, chord, same-key, settle, one-event}
+use Rattle.rules.specs.GivenBack.{input, Answer, acceptance, step}
+use Rattle.rules.specs.Sequences.{after, along, items-in}
+use Rattle.rules.specs.declared.Stamp.{Stamp}
+use Rattle.rules.specs.declared.Key.{Key}
+use Rattle.rules.specs.declared.Thumb.{Thumb}
+use Rattle.rules.specs.declared.Thumb.the-variants.{Left, Right}
+use Rattle.rules.specs.declared.Settings.{Settings}
+use Rattle.rules.specs.declared.Face.{Face}
+use Rattle.rules.specs.declared.Face.the-variants.{Plain, With}
+use Rattle.rules.specs.declared.Resting.{Resting}
+use Rattle.rules.specs.declared.Resting.the-variants.{S1, S2, S4}
+use Rattle.rules.specs.declared.Machine.{Machine}
+use Rattle.rules.specs.declared.Item.{Item}
+use Rattle.rules.specs.declared.Item.the-variants.{Character}
+use Rattle.rules.specs.declared.Event.{Event}
+use Rattle.rules.specs.declared.Input.the-variants.{CharacterDown, CharacterUp, ThumbDown, ThumbUp, Tick}
+use Rattle.rules.proofs.Tests.{range-bounds}
+use Rattle.rules.proofs.Bounds.{A-positive}
+use Rattle.rules.proofs.Steps.{step-accepted}
+use Rattle.writer.specs.Drills.{thumb-key, key-down, key-up, thumb-down, thumb-up, tick, strokes-on}
+use Rattle.writer.proofs.Read.{AllAccepted, no-more, and-more}
+
+-- Inputs.
+
+down-input : (k : Key) → k .0 < keys → input 1 k ≡ some (CharacterDown k)
+unfolding input
+down-input k h = rw (lt-ltb (k .0) keys h)
+
+up-input : (k : Key) → k .0 < keys → input 2 k ≡ some (CharacterUp k)
+unfolding input
+up-input k h = rw (lt-ltb (k .0) keys h)
+
+thumb-down-input : (O : Thumb) → input 3 (thumb-key O) ≡ some (ThumbDown O)
+unfolding input
+thumb-down-input Left = refl
+thumb-down-input Right = refl
+
+thumb-up-input : (O : Thumb) → input 4 (thumb-key O) ≡ some (ThumbUp O)
+unfolding input
+thumb-up-input Left = refl
+thumb-up-input Right = refl
+
+tick-input : input 6 (record { 0 = 0 }) ≡ some Tick
+unfolding input
+tick-input = refl
+
+-- A sequence of accepted events, with what it leaves and commits.
+pub data Chain : Machine → List Event → Machine → List Item → Type 0 where
+  end : {m : Machine} → Chain m [] m []
+  go : {m : Machine} {e : Event} {es : List Event} {a : Answer} {left : Machine} {items : List Item} → e .stamp .0 < 256 ^ 8
+      → step m e ≡ a → a .number ≡ 0 → Chain (a .machine) es left items → Chain m (e ∷ es) left (a .items ++ items)
+
+pub chain-accepted : {m left : Machine} {es : List Event} {items : List Item} → Chain m es left items → AllAccepted m es
+chain-accepted end = no-more
+chain-accepted (go {es = es} small e z c) =
+    and-more small (ap (λ (a : Answer). a .number) e ∙ z)
+    (subst (λ (a : Answer). AllAccepted (a .machine) es) (sym e) (chain-accepted c))
+
+pub chain-leaves : {m left : Machine} {es : List Event} {items : List Item} → Chain m es left items → after m es ≡ left
+chain-leaves end = refl
+chain-leaves (go {es = es} small e z c) = ap (λ (a : Answer). after (a .machine) es) e ∙ chain-leaves c
+
+pub chain-commits : {m left : Machine} {es : List Event} {items : List Item} → Chain m es left items → along items-in m es ≡ items
+chain-commits end = refl
+chain-commits (go {es = es} {a = a} small e z c) =
+    ap (λ (b : Answer). b .items ++ along items-in (b .machine) es) e ∙ ap (λ (l : List Item). a .items ++ l) (chain-commits c)
+
+-- one after the other
+pub chain-append : {m n left : Machine} {es fs : List Event} {items more : List Item} → Chain m es n items → Chain n fs left more
+    → Chain m (es ++ fs) left (items ++ more)
+chain-append end d = d
+chain-append {m = m} {left = left} {fs = fs} {more = more} (go {e = e} {es = es} {a = a} {items = items} small h z c) d =
+    subst (λ (l : List Item). Chain m (e ∷ (es ++ fs)) left l) (sym (append-assoc (a .items) items more)) (go small h z (chain-append c d))
+
+abbrev pub machine-at : Settings → Resting → Stamp → Machine
+machine-at s x last = record { settings = s; resting = x; last = last }
+
+module _ (s : Settings) (r : in-range s ≡ true) (t : Stamp) (low : t .0 ≤ largest-stamp) (k : Key) (b : k .0 < keys) where
+  -- what an accepted event at t gives
+  abbrev given : Resting → Stamp → Done → Answer
+  given x last d = acceptance (machine-at s x last) t d
+
+  S1-well-formed : (last : Stamp) → last .0 ≤ t .0 → well-formed (machine-at s S1 last) ≡ true
+  unfolding well-formed
+  S1-well-formed last h = rw (r, le-leb (last .0) largest-stamp (omega arith))
+
+  S2-well-formed : well-formed (machine-at s (S2 k t) t) ≡ true
+  unfolding well-formed
+  S2-well-formed = rw (r, lt-ltb (k .0) keys b, le-leb (t .0) (t .0) (omega arith), le-leb (t .0) largest-stamp low)
+
+  S4-well-formed : (O : Thumb) → well-formed (machine-at s (S4 k t O t) t) ≡ true
+  unfolding well-formed
+  S4-well-formed O = rw (r, lt-ltb (k .0) keys b, le-leb (t .0) (t .0) (omega arith), le-leb (t .0) largest-stamp low)
+
+  -- Each stroke. Nothing is due in S1; in S2 not before A, which is not 0; in S4 at once, since the thumb came with the key.
+
+  key-goes-down : (last : Stamp) → last .0 ≤ t .0 → step (machine-at s S1 last) (key-down t k) ≡ given S1 last (nothing leaving S2 k t)
+  unfolding one-event settle
+  key-goes-down last h =
+      step-accepted (machine-at s S1 last) (key-down t k) (CharacterDown k) (S1-well-formed last h) (down-input k b) low h
+
+  S2-waits : t .0 < t .0 + A s
+  S2-waits = let a = A-positive s (range-bounds s r) in omega arith
+
+  key-comes-up : step (machine-at s (S2 k t) t) (key-up t k) ≡ given (S2 k t) t (plain k leaving S1)
+  unfolding one-event settle same-key
+  key-comes-up =
+      step-accepted (machine-at s (S2 k t) t) (key-up t k) (CharacterUp k) S2-well-formed (up-input k b) low (omega arith)
+      ∙ ap (given (S2 k t) t) (rw (lt-leb (t .0 + A s) (t .0) S2-waits, eq-eqb (k .0) (k .0) refl))
+
+  thumb-goes-down : (O : Thumb) → step (machine-at s (S2 k t) t) (thumb-down t O) ≡ given (S2 k t) t (nothing leaving S4 k t O t)
+  unfolding one-event settle
+  thumb-goes-down O =
+      step-accepted (machine-at s (S2 k t) t) (thumb-down t O) (ThumbDown O) S2-well-formed (thumb-down-input O) low (omega arith)
+      ∙ ap (given (S2 k t) t) (rw (lt-leb (t .0 + A s) (t .0) S2-waits))
+
+  no-wait : FJ s (t .0 - t .0) ≡ 0
+  unfolding FJ up
+  no-wait =
+      let bounds = range-bounds s r in
+      rw (sub-self, zero-mul) (div-eq-of-lt (omega arith))
+
+  chord-comes-out : (O : Thumb) → step (machine-at s (S4 k t O t) t) (tick t) ≡ given (S4 k t O t) t (chord k O leaving S1)
+  unfolding one-event settle
+  chord-comes-out O =
+      step-accepted (machine-at s (S4 k t O t) t) (tick t) Tick (S4-well-formed O) tick-input low (omega arith)
+      ∙ ap (given (S4 k t O t) t) (rw (le-leb (t .0 + FJ s (t .0 - t .0)) (t .0) (rw no-wait (omega arith))))
+
+  thumb-comes-up : (O : Thumb) → step (machine-at s S1 t) (thumb-up t O) ≡ given S1 t (nothing leaving S1)
+  unfolding one-event settle
+  thumb-comes-up O =
+      step-accepted (machine-at s S1 t) (thumb-up t O) (ThumbUp O) (S1-well-formed t (omega arith)) (thumb-up-input O) low (omega arith)
+
+  key-comes-up-last : step (machine-at s S1 t) (key-up t k) ≡ given S1 t (nothing leaving S1)
+  unfolding one-event settle
+  key-comes-up-last =
+      step-accepted (machine-at s S1 t) (key-up t k) (CharacterUp k) (S1-well-formed t (omega arith)) (up-input k b) low (omega arith)
+
+  small : t .0 < 256 ^ 8
+  small = omega arith
+
+  -- the strokes on a face commit the character and leave nothing resting
+  pub strokes-play : (last : Stamp) → last .0 ≤ t .0 → (f : Face)
+      → Chain (machine-at s S1 last) (strokes-on t k f) (machine-at s S1 t) (Character k f ∷ [])
+  strokes-play last h Plain = go small (key-goes-down last h) refl (go small key-comes-up refl end)
+  strokes-play last h (With O) =
+      go small (key-goes-down last h) refl
+      (go small (thumb-goes-down O) refl
+      (go small (chord-comes-out O) refl (go small (thumb-comes-up O) refl (go small key-comes-up-last refl end))))

@@ -1,0 +1,4 @@
+pub mod Drills
+pub mod Parts
+pub mod Writes
+pub mod RoundTrip
