@@ -1,3 +1,4 @@
+-- `host::trabeculon_read_log` meets its contract.
 use borrow.Author.Needs.{needs}
 use Rattle.host.proofs.trabeculon_read_log.Statement.{statement}
 use Rattle.host.proofs.trabeculon_read_log.Tie as tie
