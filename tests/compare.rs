@@ -1,16 +1,23 @@
-//! Compares the proved library, through its C face, with the model of document
-//! 01: the answer, the words, and every byte that must stay untouched.
+//! Compares the proved library, through its C face, with the model of the papers:
+//! the answer, the words or the log, and every byte that must stay untouched.
 //!
 //!   compare [COUNT [SEED]] [--wrong-rule [NAME]]
 //!
-//! Reads the fixed set of logs damaged at every place, then COUNT random ones.
-//! Exit 0: all equal. Exit 1: a mismatch, printed. Exit 2: wrong arguments.
+//! The reader: the fixed set of logs damaged at every place, then COUNT random
+//! ones. The writer (compare_writer.rs): its fixed set of drills, then a quarter of
+//! COUNT random ones. Exit 0: all equal. Exit 1: a mismatch, printed. Exit 2: wrong
+//! arguments.
 
+mod compare_writer;
+
+use std::collections::BTreeMap;
 use std::process::ExitCode;
 
+use trabeculon_model::drill::{WriterSlip, WRITER_SLIPS};
 use trabeculon_model::generate::{every_place, random_case, Case};
 use trabeculon_model::log::{read_log_bytes_with, Answer};
 use trabeculon_model::model::{Slip, SLIPS};
+use trabeculon_model::program::hex;
 use trabeculon_model::random::Random;
 
 extern "C" {
@@ -25,23 +32,33 @@ fn library_read_log(log: &[u8], out: &mut [u8]) -> Answer {
 
 const DEFAULT_COUNT: u64 = 200_000;
 const DEFAULT_SEED: u64 = 20_010_401;
-/// From this count on, each number 0 to 8 must have come up, but 2, which no log
-/// is ever answered.
+/// From this count on, each number that can come up must have come up.
 const ENOUGH: u64 = 10_000;
+/// The numbers of a log: not 2, since a reader opens its own state.
+const READER_NUMBERS: [u64; 8] = [0, 1, 3, 4, 5, 6, 7, 8];
 /// Bytes before and after the run, to see a write outside it.
 const GUARD: usize = 32;
 
 struct Arguments {
     count: u64,
     seed: u64,
-    slip: Option<Slip>,
+    wrong: Wrong,
+}
+
+/// A wrong rule for the model, if any.
+#[derive(Clone, Copy, Default)]
+struct Wrong {
+    reader: Option<Slip>,
+    writer: Option<WriterSlip>,
 }
 
 fn main() -> ExitCode {
     let words: Vec<String> = std::env::args().skip(1).collect();
     let Some(arguments) = read_arguments(&words) else {
-        let names = SLIPS.map(|(name, _)| name).join(", ");
-        eprintln!("usage: compare [COUNT [SEED]] [--wrong-rule [NAME]]\nnames: {names}");
+        let reader = SLIPS.map(|(name, _)| name).join(", ");
+        let writer = WRITER_SLIPS.map(|(name, _)| name).join(", ");
+        eprintln!("usage: compare [COUNT [SEED]] [--wrong-rule [NAME]]");
+        eprintln!("names: {reader},\n{writer}");
         return ExitCode::from(2);
     };
     match compare_all(&arguments) {
@@ -54,13 +71,15 @@ fn main() -> ExitCode {
 }
 
 fn read_arguments(words: &[String]) -> Option<Arguments> {
-    let mut arguments = Arguments { count: DEFAULT_COUNT, seed: DEFAULT_SEED, slip: None };
+    let wrong = Wrong::default();
+    let mut arguments = Arguments { count: DEFAULT_COUNT, seed: DEFAULT_SEED, wrong };
     let mut numbers = 0;
     let mut words = words.iter().peekable();
     while let Some(word) = words.next() {
         if word == "--wrong-rule" {
-            let named = words.peek().and_then(|name| slip_named(name));
-            arguments.slip = named.or(Some(SLIPS[0].1));
+            let named = words.peek().and_then(|name| wrong_named(name));
+            let first = Wrong { reader: Some(SLIPS[0].1), writer: None };
+            arguments.wrong = named.unwrap_or(first);
             if named.is_some() {
                 words.next();
             }
@@ -73,43 +92,55 @@ fn read_arguments(words: &[String]) -> Option<Arguments> {
     Some(arguments)
 }
 
-fn slip_named(name: &str) -> Option<Slip> {
-    SLIPS.iter().find(|(n, _)| *n == name).map(|(_, slip)| *slip)
+fn wrong_named(name: &str) -> Option<Wrong> {
+    let wrong = Wrong { reader: named(&SLIPS, name), writer: named(&WRITER_SLIPS, name) };
+    (wrong.reader.is_some() || wrong.writer.is_some()).then_some(wrong)
 }
 
-/// How many logs were compared and how often each number came up.
-#[derive(Default)]
-struct Tally {
-    logs: u64,
-    numbers: [u64; 9],
+fn named<T: Copy>(slips: &[(&str, T)], name: &str) -> Option<T> {
+    slips.iter().find(|(n, _)| *n == name).map(|(_, slip)| *slip)
 }
+
+/// How often each number came up.
+#[derive(Default)]
+struct Tally(BTreeMap<u64, u64>);
 
 impl Tally {
-    fn add(&mut self, answer: &Answer) {
-        self.logs += 1;
-        if let Some(times) = self.numbers.get_mut(answer.number as usize) {
-            *times += 1;
-        }
+    fn add(&mut self, number: u64) {
+        *self.0.entry(number).or_default() += 1;
     }
 
     fn print(&self, what: &str) {
-        let times = self.numbers.iter().enumerate().map(|(n, times)| format!(" {n}:{times}"));
-        println!("compared {} {what}; numbers{}", self.logs, times.collect::<String>());
+        let times = self.0.iter().map(|(number, times)| format!(" {number}:{times}"));
+        let all: u64 = self.0.values().sum();
+        println!("compared {all} {what}; numbers{}", times.collect::<String>());
     }
 
-    /// The first number that a log can be answered with and that never came up.
-    fn missing(&self) -> Option<usize> {
-        // A reader opens its own state, so no log is ever refused 2.
-        (0..9).find(|n| *n != 2 && self.numbers[*n] == 0)
+    /// An error if one of these numbers never came up, where there was time enough.
+    fn complete(&self, numbers: &[u64], count: u64) -> Result<(), String> {
+        match numbers.iter().find(|number| !self.0.contains_key(number)) {
+            Some(number) if count >= ENOUGH => Err(format!("number {number} never came up")),
+            _ => Ok(()),
+        }
     }
 }
 
 fn compare_all(arguments: &Arguments) -> Result<(), String> {
+    // No log shows a wrong rule of the writer.
+    if arguments.wrong.writer.is_none() {
+        compare_reader(arguments)?;
+    }
+    compare_writer::compare_all(arguments)
+}
+
+fn compare_reader(arguments: &Arguments) -> Result<(), String> {
     let mut random = Random::new(arguments.seed);
-    let slip = arguments.slip;
+    let slip = arguments.wrong.reader;
 
     let mut fixed = Tally::default();
-    every_place(|case| compare(&mut random, slip, &case).map(|answer| fixed.add(&answer)))?;
+    every_place(|case| {
+        compare(&mut random, slip, &case).map(|answer| fixed.add(answer.number.into()))
+    })?;
     fixed.print("logs damaged at every place");
 
     let mut tally = Tally::default();
@@ -117,13 +148,10 @@ fn compare_all(arguments: &Arguments) -> Result<(), String> {
         let case = random_case(&mut random);
         let answer = compare(&mut random, slip, &case)
             .map_err(|what| format!("log {index} of seed {}: {what}", arguments.seed))?;
-        tally.add(&answer);
+        tally.add(answer.number.into());
     }
     tally.print(&format!("random logs of seed {}", arguments.seed));
-    match tally.missing() {
-        Some(number) if arguments.count >= ENOUGH => Err(format!("number {number} never came up")),
-        _ => Ok(()),
-    }
+    tally.complete(&READER_NUMBERS, arguments.count)
 }
 
 /// Reads one log both ways into runs that hold the same bytes before.
@@ -168,8 +196,4 @@ fn random_bytes(random: &mut Random, length: usize) -> Vec<u8> {
     }
     bytes.truncate(length);
     bytes
-}
-
-fn hex(bytes: &[u8]) -> String {
-    bytes.iter().map(|byte| format!("{byte:02x}")).collect()
 }

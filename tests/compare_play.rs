@@ -5,11 +5,11 @@
 //! Gives it logs around its buffer's length and COUNT random ones on standard
 //! input. Exit 0: all equal. Exit 1: a mismatch, printed. Exit 2: wrong arguments.
 
-use std::io::{Result, Write};
-use std::process::{Command, ExitCode, Stdio};
+use std::process::ExitCode;
 
 use trabeculon_model::generate::{random_case, typed_log};
 use trabeculon_model::log::{play, BUFFER};
+use trabeculon_model::program::{hex, run};
 use trabeculon_model::random::Random;
 
 const DEFAULT_COUNT: u64 = 500;
@@ -36,7 +36,7 @@ fn main() -> ExitCode {
     }
 }
 
-fn compare_all(program: &str, count: u64, seed: u64) -> std::result::Result<usize, String> {
+fn compare_all(program: &str, count: u64, seed: u64) -> Result<usize, String> {
     let mut random = Random::new(seed);
     let mut logs = long_logs(&mut random);
     logs.extend((0..count).map(|_| random_case(&mut random).log));
@@ -56,28 +56,11 @@ fn long_logs(random: &mut Random) -> Vec<Vec<u8>> {
     logs
 }
 
-fn compare(program: &str, log: &[u8]) -> std::result::Result<(), String> {
-    let printed = run(program, log).map_err(|error| format!("{program}: {error}"))?;
+fn compare(program: &str, log: &[u8]) -> Result<(), String> {
+    let printed = run(program, &[], log).map_err(|error| format!("{program}: {error}"))?.stdout;
     if printed == play(log).as_bytes() {
         return Ok(());
     }
     let printed = String::from_utf8_lossy(&printed).into_owned();
     Err(format!("log     {}\nprogram {printed:?}\nmodel   {:?}", hex(log), play(log)))
-}
-
-/// What the program prints when it is given a log on standard input.
-fn run(program: &str, log: &[u8]) -> Result<Vec<u8>> {
-    let piped = Stdio::piped;
-    let mut child = Command::new(program).stdin(piped()).stdout(piped()).spawn()?;
-    let input = child.stdin.take();
-    let output = std::thread::scope(|scope| {
-        // It need not read all of a log that is too long, so a broken pipe is fine.
-        scope.spawn(move || input.map(|mut input| input.write_all(log)));
-        child.wait_with_output()
-    });
-    Ok(output?.stdout)
-}
-
-fn hex(bytes: &[u8]) -> String {
-    bytes.iter().map(|byte| format!("{byte:02x}")).collect()
 }

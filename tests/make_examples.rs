@@ -1,11 +1,13 @@
 //! Makes the files of examples/ byte for byte: `make_examples FOLDER`. Each
-//! example is a log, a text that says what was typed, and what `play` prints.
-//! What is printed stands here as text and is checked against the model.
+//! example is a log, a text that says what was typed, and what `play` prints; a
+//! drill has its line too. What is printed stands here as text and is checked
+//! against the model, and the log of a drill against the model's writer.
 
 use std::io::{Error, Result};
 use std::path::Path;
 use std::process::ExitCode;
 
+use trabeculon_model::drill::drill;
 use trabeculon_model::log::{log_of, play};
 use trabeculon_model::notation::events;
 
@@ -16,18 +18,21 @@ struct Example {
     keystrokes: &'static str,
     /// Place and value of a damaged byte.
     damage: Option<(usize, u8)>,
+    /// The line that `drill` makes this log from.
+    line: Option<&'static str>,
     text: &'static str,
     expected: &'static str,
 }
 
 const USUAL: (u16, u8, u8, u8) = (100, 50, 50, 0);
 
-const EXAMPLES: [Example; 4] = [
+const EXAMPLES: [Example; 5] = [
     Example {
         name: "saigai",
         settings: USUAL,
         keystrokes: "24@0 24up@60 18@100 18up@150 21@200 R@230 21up@270 Rup@280 18@300 tick@400",
         damage: None,
+        line: None,
         text: "\
 The log of document 01: 138 bytes, T=100, J=L=50, solo 0.
 
@@ -53,6 +58,7 @@ play prints さいがい, and nothing waits.
         settings: USUAL,
         keystrokes: "24@0 24up@60 18@100 18up@150 21@200 R@230 21up@250 Rup@280 18@300 tick@400",
         damage: None,
+        line: None,
         text: "\
 The log of saigai with key 21 released 20 ms earlier: 138 bytes, T=100, J=L=50,
 solo 0.
@@ -80,6 +86,7 @@ play prints さいかい, and nothing waits.
         settings: USUAL,
         keystrokes: "24@0 24up@60 18@100 18up@150 21@200 R@230 21up@270 Rup@280 18@300 tick@400",
         damage: Some((73, 9)),
+        line: None,
         text: "\
 The log of saigai with one byte damaged: the tag of the record at offset 73 (the
 right thumb's press) is 9, which is no tag. 138 bytes, T=100, J=L=50, solo 0.
@@ -102,6 +109,7 @@ play prints さい, which was committed before the damage, and where it is.
         settings: (100, 60, 50, 0),
         keystrokes: "21@0 R@30 24@60 tick@126 tick@127",
         damage: None,
+        line: None,
         text: "\
 Document 01's keystrokes P8 as request 1/12 has them: the thumb lies 30 ms behind
 the first character and 30 ms before the second, and the first has it. 73 bytes,
@@ -120,6 +128,35 @@ play prints がさ, and nothing waits.
 ",
         expected: "がさ\nwaiting 0\n",
     },
+    Example {
+        name: "drill",
+        settings: USUAL,
+        keystrokes: "24@0 24up@0 18@250 18up@250 21@500 R@500 tick@500 Rup@500 21up@500 \
+                     18@750 18up@750",
+        damage: None,
+        line: Some("さいがい\n"),
+        text: "\
+The drill of さいがい (request 2/12): what `drill` writes for drill.line. 151 bytes,
+T=100, J=L=50, solo 0.
+
+   at  stamp  typed                what happens
+    0         settings
+    8      0  key 24 (さ) down     さ waits
+   21      0  key 24 up            さ is committed
+   34    250  key 18 (い) down     い waits
+   47    250  key 18 up            い is committed
+   60    500  key 21 (か) down     か waits
+   73    500  right thumb down     か and the thumb wait until 500
+   86    500  tick                 late: the chord が is committed
+   99    500  right thumb up
+  112    500  key 21 up
+  125    750  key 18 (い) down     い waits
+  138    750  key 18 up            い is committed
+
+play prints さいがい, and nothing waits.
+",
+        expected: "さいがい\nwaiting 0\n",
+    },
 ];
 
 fn main() -> ExitCode {
@@ -136,15 +173,22 @@ fn main() -> ExitCode {
     }
 }
 
-/// Writes the three files of one example.
+/// Writes the files of one example.
 fn make(folder: &Path, example: &Example) -> Result<()> {
     let log = log(example).ok_or(Error::other("can't read the keystrokes"))?;
     if play(&log) != example.expected {
         return Err(Error::other(format!("{}: the model prints {}", example.name, play(&log))));
     }
+    let drilled = |line: &str| drill(example.settings, line.as_bytes()) == Some(Ok(log.clone()));
+    if !example.line.is_none_or(drilled) {
+        return Err(Error::other(format!("{}: the model drills another log", example.name)));
+    }
     let write = |ending: &str, bytes: &[u8]| {
         std::fs::write(folder.join(format!("{}.{ending}", example.name)), bytes)
     };
+    if let Some(line) = example.line {
+        write("line", line.as_bytes())?;
+    }
     write("log", &log)?;
     write("txt", example.text.as_bytes())?;
     write("expected", example.expected.as_bytes())

@@ -1,15 +1,12 @@
 //! Makes logs for the tests: random ones that crowd around the places where a
 //! rule turns, a fixed set damaged at every place, and long typed ones.
 
-use crate::log::{event_record, log_of, read_log, settings_record};
+use crate::log::{event_record, log_of, read_log, settings_record, RawSettings};
 use crate::model::{
     step, Event, Machine, Resting, Settings, Thumb, KEYS, LARGEST_STAMP, SHORT_OVERLAP,
 };
 use crate::notation;
 use crate::random::Random;
-
-/// T, J, L, solo as a log holds them.
-pub type RawSettings = (u16, u8, u8, u8);
 
 const SETTINGS_LENGTH: usize = 8;
 const EVENT_LENGTH: usize = 13;
@@ -82,7 +79,7 @@ fn percent(random: &mut Random) -> u8 {
 }
 
 /// Settings with at least one number out of range.
-fn wrong_settings(random: &mut Random) -> RawSettings {
+pub fn wrong_settings(random: &mut Random) -> RawSettings {
     let (t, j, l, solo) = right_settings(random);
     let percent = random.pick(&[0, 100, 255]);
     match random.below(4) {
@@ -343,16 +340,19 @@ fn settings_everywhere<E>(log: &[u8], visit: Visit<E>) -> Result<(), E> {
 
 /// Settings on and beside every boundary, before the same events.
 fn every_boundary<E>(events: &[u8], visit: Visit<E>) -> Result<(), E> {
-    let percents = [0, 1, 2, 50, 98, 99, 100, 255];
-    for t in [0, 49, 50, 51, 100, 199, 200, 201, 256, 306, 65_535] {
-        for (j, l) in percents.iter().flat_map(|j| percents.iter().map(move |l| (*j, *l))) {
-            for solo in [0, 1, 2, 255] {
-                let log = [&settings_record(t, j, l, solo), events].concat();
-                visit(Case { log, room: 41 })?;
-            }
-        }
-    }
-    Ok(())
+    boundary_settings().try_for_each(|(t, j, l, solo)| {
+        let log = [&settings_record(t, j, l, solo), events].concat();
+        visit(Case { log, room: 41 })
+    })
+}
+
+/// Settings on and beside every boundary.
+pub fn boundary_settings() -> impl Iterator<Item = RawSettings> {
+    const PERCENTS: [u8; 8] = [0, 1, 2, 50, 98, 99, 100, 255];
+    let times = [0, 49, 50, 51, 100, 199, 200, 201, 256, 306, 65_535].into_iter();
+    let first = times.flat_map(|t| PERCENTS.map(|j| (t, j)));
+    let second = first.flat_map(|(t, j)| PERCENTS.map(|l| (t, j, l)));
+    second.flat_map(|(t, j, l)| [0, 1, 2, 255].map(|solo| (t, j, l, solo)))
 }
 
 /// Every kind with every key, at stamps on and beside the bounds.

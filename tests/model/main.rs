@@ -1,7 +1,9 @@
-//! `model check` tries the model against every worked example of document 01
-//! and against demand 3 on random sequences. `model play` prints what the
-//! program prints for the log on standard input, by the model.
+//! `model check` tries the model against every worked example of the papers, and
+//! demand 3 and the round trip of drills on random sequences and lines. `model
+//! play` and `model drill` print what the program of that name prints for its
+//! standard input, by the model.
 
+mod check_drill;
 mod worked;
 
 use std::collections::BTreeSet;
@@ -9,8 +11,9 @@ use std::io::{Read, Write};
 use std::process::ExitCode;
 
 use trabeculon_model::demand3;
+use trabeculon_model::drill::{drill, USUAL_SETTINGS};
 use trabeculon_model::generate;
-use trabeculon_model::log::{log_of, play, read_log, read_log_bytes, Answer, BUFFER};
+use trabeculon_model::log::{log_of, play, read_log, read_log_bytes, Answer, RawSettings, BUFFER};
 use trabeculon_model::model::{
     character, sign, step, Event, Face, Item, Machine, Resting, Settings, Thumb, KEYS,
     LARGEST_STAMP,
@@ -25,7 +28,11 @@ fn main() -> ExitCode {
     let done = match arguments[..] {
         ["check"] => check_all(),
         ["play"] => play_input(),
-        _ => Err("usage: model check | model play < LOG".to_string()),
+        ["drill"] => drill_input(USUAL_SETTINGS),
+        ["drill", t, j, l, solo] => {
+            raw_settings([t, j, l, solo]).ok_or(usage()).and_then(drill_input)
+        }
+        _ => Err(usage()),
     };
     match done {
         Ok(()) => ExitCode::SUCCESS,
@@ -36,10 +43,34 @@ fn main() -> ExitCode {
     }
 }
 
+fn usage() -> String {
+    "usage: model check | model play < LOG | model drill [T J L SOLO] < LINE".to_string()
+}
+
+fn raw_settings([t, j, l, solo]: [&str; 4]) -> Option<RawSettings> {
+    Some((t.parse().ok()?, j.parse().ok()?, l.parse().ok()?, solo.parse().ok()?))
+}
+
 fn play_input() -> Result<(), String> {
-    let mut log = vec![];
-    std::io::stdin().read_to_end(&mut log).map_err(|e| e.to_string())?;
-    std::io::stdout().write_all(play(&log).as_bytes()).map_err(|e| e.to_string())
+    write_output(play(&read_input()?).as_bytes())
+}
+
+fn drill_input(settings: RawSettings) -> Result<(), String> {
+    match drill(settings, &read_input()?) {
+        Some(Ok(log)) => write_output(&log),
+        Some(Err(refusal)) => Err(refusal.trim_end().to_string()),
+        None => Err("damaged UTF-8 or a code point above 65,535".to_string()),
+    }
+}
+
+fn read_input() -> Result<Vec<u8>, String> {
+    let mut input = vec![];
+    std::io::stdin().read_to_end(&mut input).map_err(|e| e.to_string())?;
+    Ok(input)
+}
+
+fn write_output(bytes: &[u8]) -> Result<(), String> {
+    std::io::stdout().write_all(bytes).map_err(|e| e.to_string())
 }
 
 fn check_all() -> Result<(), String> {
@@ -49,6 +80,7 @@ fn check_all() -> Result<(), String> {
     check_refusals()?;
     check_logs()?;
     check_program()?;
+    check_drill::check_all()?;
     check_demand3()?;
     check_rules_reached()
 }
