@@ -1,4 +1,4 @@
--- What a caller of `Machine::open` and `engine::step` sees. Each clause below is the contract of one of the two functions, and both
+-- What a caller of `Machine::open` and `engine::step` sees. Each clause below follows from the contract of one of the two functions, and both
 -- hold at every input, so a caller's own sequence of calls is a `CodeRun`, whatever the settings and the events are.
 use mathlib.Core.Path.{_≡_}
 use mathlib.Core.List.{List, [], _∷_, _++_}
