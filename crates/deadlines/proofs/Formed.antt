@@ -1,20 +1,29 @@
--- In a machine that is well formed every sum and every lag fits, so its deadline is document 01's.
-use mathlib.Core.Path.{_≡_, refl}
-use mathlib.Core.Bool.{Bool, true, _&&_, and-eq-true-iff}
-use Prim.Native.Nat.{_≤_, min}
+-- In a machine that is well formed every sum and every lag fits, so its deadline is document 01's, and its distance from a
+-- stamp that is accepted is document 02's.
+use mathlib.Core.Path.{_≡_, refl, ap, sym, subst, _∙_}
+use mathlib.Core.Bool.{Bool, true, false, _&&_, and-eq-true-iff}
+use mathlib.Core.Option.{Option, none, some}
+use Prim.Native.Nat.{ℕ, _+_, _≤_, min}
 use native.Mathlib.Nat.{min-le-left}
 use native.Mathlib.Omega.{arith}
-use borrow.Author.Tests.{leb-true}
+use lib.Dec.{ltb, eqb}
+use lib.IntN.{ℤ}
+use borrow.Author.Tests.{leb-true, ltb-false}
+use Rattle.rules.specs.Choice.{if_then_else_}
 use Rattle.rules.specs.Numbers.{largest-stamp, in-range, A, B, FJ, FL}
-use Rattle.rules.specs.States.{at, lag, at-or-before, deadline, asking, keys-below, stamps-by, in-order, well-formed}
+use Rattle.rules.specs.States.{at, lag, at-or-before, later, deadline, keys-below, stamps-by, in-order, well-formed}
+use Rattle.rules.specs.Distance.{distance-to, Asking, not-answered, at-stamp, asking}
 use Rattle.rules.specs.declared.Stamp.{Stamp}
 use Rattle.rules.specs.declared.Settings.{Settings}
 use Rattle.rules.specs.declared.Resting.{Resting}
 use Rattle.rules.specs.declared.Resting.the-variants.{S1, S2, S3, S4, S5, S6}
 use Rattle.rules.specs.declared.Machine.{Machine}
+use Rattle.rules.proofs.Choices.{both-ways}
 use Rattle.rules.proofs.Tests.{range-bounds}
 use Rattle.waits.proofs.Bounds.{Held, later-fits, lag-fits, A-bound, B-bound, FJ-bound, FL-bound}
-use Rattle.deadlines.specs.Capped.{deadline-at-most}
+use Rattle.waits.specs.Capped.{largest-signed, later-at-most}
+use Rattle.waits.proofs.Distances.{distance-fits}
+use Rattle.deadlines.specs.Capped.{deadline-at-most, distance-to-at-most}
 
 -- settings in range are numbers of two bytes and of one
 in-range-held : (s : Settings) → in-range s ≡ true → Held s
@@ -24,30 +33,50 @@ in-range-held s e = let r = range-bounds s e in record { t = omega arith; j = om
 second : (a b : Bool) → (a && b) ≡ true → b ≡ true
 second a b e = and-eq-true-iff a b .0 e .1
 
+-- a deadline, if there is one, that a signed number holds
+abbrev Holds : Option Stamp → Type 0
+Holds none = Unit {0}
+Holds (some d) = d .0 ≤ largest-signed
+
+-- what is answered is document 01's deadline, and a signed number holds it
+record Fits (s : Settings) (x : Resting) : Type 0 where
+  same : deadline-at-most s x ≡ deadline s x
+  held : Holds (deadline s x)
+
+sum-fits : (a : Stamp) (x : ℕ) → a .0 + x ≤ largest-signed → later-at-most a x ≡ later a x
+sum-fits a x h = later-fits a x (omega arith)
+
 module _ (s : Settings) (held : Held s) (last : Stamp) (top : last .0 ≤ largest-stamp) where
   at-most : (a : Stamp) → at-or-before a last ≡ true → a .0 ≤ largest-stamp
   at-most a e = omega (arith, leb-true (a .0) (last .0) e)
 
-  by-state : (x : Resting) → stamps-by last x ≡ true → deadline-at-most s x ≡ deadline s x
-  by-state S1 e = refl
-  by-state (S2 M m) e = rw (later-fits m (A s) (omega (arith, at-most m e, A-bound s held)))
-  by-state (S3 O o) e = rw (later-fits o (B s) (omega (arith, at-most o e, B-bound s held)))
+  by-state : (x : Resting) → stamps-by last x ≡ true → Fits s x
+  by-state S1 e = record { same = refl; held = tt }
+  by-state (S2 M m) e =
+      let h : m .0 + A s ≤ largest-signed = omega (arith, at-most m e, A-bound s held) in
+      record { same = rw (sum-fits m (A s) h); held = h }
+  by-state (S3 O o) e =
+      let h : o .0 + B s ≤ largest-signed = omega (arith, at-most o e, B-bound s held) in
+      record { same = rw (sum-fits o (B s) h); held = both-ways Holds (eqb (s .solo) 1) h tt }
   by-state (S4 M m O o) e =
-      let h : o .0 ≤ largest-stamp = at-most o (second (at-or-before m last) (at-or-before o last) e) in
+      let k : o .0 ≤ largest-stamp = at-most o (second (at-or-before m last) (at-or-before o last) e) in
       let x : lag m o ≤ largest-stamp = omega arith in
-      rw (lag-fits (lag m o) x, later-fits o (FJ s (lag m o)) (omega (arith, FJ-bound s held x)))
+      let h : o .0 + FJ s (lag m o) ≤ largest-signed = omega (arith, FJ-bound s held x) in
+      record { same = rw (lag-fits (lag m o) x, sum-fits o (FJ s (lag m o)) h); held = h }
   by-state (S5 O o M m) e =
-      let h : m .0 ≤ largest-stamp = at-most m (second (at-or-before o last) (at-or-before m last) e) in
+      let k : m .0 ≤ largest-stamp = at-most m (second (at-or-before o last) (at-or-before m last) e) in
+      let y = min (lag o m) (B s) in
       let x : min (lag o m) (B s) ≤ largest-stamp = omega (arith, min-le-left (lag o m) (B s)) in
-      rw (lag-fits (min (lag o m) (B s)) x, later-fits m (FL s (min (lag o m) (B s))) (omega (arith, FL-bound s held x)))
+      let h : m .0 + FL s (min (lag o m) (B s)) ≤ largest-signed = omega (arith, FL-bound s held x) in
+      record { same = rw (lag-fits (min (lag o m) (B s)) x, sum-fits m (FL s (min (lag o m) (B s))) h); held = h }
   by-state (S6 O o M m r) e =
-      let h : r .0 ≤ largest-stamp = at-most r (second (at-or-before o last && at-or-before m last) (at-or-before r last) e) in
-      rw (later-fits r (lag m r) (omega arith))
+      let k : r .0 ≤ largest-stamp = at-most r (second (at-or-before o last && at-or-before m last) (at-or-before r last) e) in
+      let h : r .0 + lag m r ≤ largest-signed = omega arith in
+      record { same = rw (sum-fits r (lag m r) h); held = h }
 
-pub well-formed-deadline : (x : Machine) → well-formed x ≡ true
-    → deadline-at-most (x .settings) (x .resting) ≡ deadline (x .settings) (x .resting)
+well-formed-fits : (x : Machine) → well-formed x ≡ true → Fits (x .settings) (x .resting)
 unfolding well-formed
-well-formed-deadline x e =
+well-formed-fits x e =
     let R = in-range (x .settings) in
     let K = keys-below (x .resting) in
     let S = stamps-by (x .last) (x .resting) in
@@ -62,8 +91,33 @@ well-formed-deadline x e =
     (x .resting)
     (rk .1)
 
--- what such a machine answers
-pub well-formed-asking : (x : Machine) → well-formed x ≡ true
-    → asking x ≡ record { number = 0; deadline = deadline-at-most (x .settings) (x .resting) }
+pub well-formed-deadline : (x : Machine) → well-formed x ≡ true
+    → deadline-at-most (x .settings) (x .resting) ≡ deadline (x .settings) (x .resting)
+well-formed-deadline x e = well-formed-fits x e .same
+
+same-distance : (now : Stamp) → now .0 ≤ largest-stamp → (d : Option Stamp) → Holds d → distance-to now d ≡ distance-to-at-most now d
+same-distance now low none h = refl
+same-distance now low (some d) h = ap some (sym (distance-fits now d (omega arith) h))
+
+-- distances that agree within the largest stamp are answered alike
+same-answer : (last now : Stamp) {a b : Option ℤ} → (now .0 ≤ largest-stamp → a ≡ b) → at-stamp last now a ≡ at-stamp last now b
+same-answer last now {a} {b} same = go (ltb largest-stamp (now .0)) refl
+  where
+    accepted : Option ℤ → Asking
+    accepted d = if ltb (now .0) (last .0) then not-answered 5 else record { number = 0; distance = d }
+
+    go : (t : Bool) → ltb largest-stamp (now .0) ≡ t
+        → (if t then not-answered 4 else accepted a) ≡ (if t then not-answered 4 else accepted b)
+    go true e = refl
+    go false e = ap accepted (same (ltb-false _ _ e))
+
+-- what a machine that is well formed answers, with its deadline as the code has it
+pub well-formed-asking : (x : Machine) (now : Stamp) (d : Option Stamp) → well-formed x ≡ true
+    → d ≡ deadline-at-most (x .settings) (x .resting)
+    → asking x now ≡ at-stamp (x .last) now (distance-to-at-most now d)
 unfolding asking
-well-formed-asking x e = rw (e, well-formed-deadline x e)
+well-formed-asking x now d e f =
+    let fit = well-formed-fits x e in
+    let same = f ∙ fit .same in
+    let held : Holds d = subst Holds (sym same) (fit .held) in
+    rw (e, ← same) (same-answer (x .last) now (λ low. same-distance now low d held))

@@ -1,9 +1,10 @@
 -- The deadline of any resting state, with any numbers in it: document 01's, but that a sum that would not fit is the largest
--- number, and a lag that is multiplied is the largest stamp at most. In a machine that is well formed it is document 01's
--- (proofs/Formed.antt).
+-- number, and a lag that is multiplied is the largest stamp at most; and the distance from any stamp to it. In a machine that
+-- is well formed, at a stamp that it accepts, they are the papers' (proofs/Formed.antt).
 use Prim.Native.Nat.{min}
 use mathlib.Core.Option.{Option, none, some}
 use lib.Dec.{eqb}
+use lib.IntN.{ℤ}
 use Rattle.rules.specs.Choice.{if_then_else_}
 use Rattle.rules.specs.Numbers.{A, B, FJ, FL}
 use Rattle.rules.specs.States.{lag}
@@ -11,7 +12,7 @@ use Rattle.rules.specs.declared.Stamp.{Stamp}
 use Rattle.rules.specs.declared.Settings.{Settings}
 use Rattle.rules.specs.declared.Resting.{Resting}
 use Rattle.rules.specs.declared.Resting.the-variants.{S1, S2, S3, S4, S5, S6}
-use Rattle.waits.specs.Capped.{later-at-most, lag-at-most}
+use Rattle.waits.specs.Capped.{later-at-most, lag-at-most, distance-at-most}
 
 abbrev pub deadline-at-most : Settings → Resting → Option Stamp
 deadline-at-most s S1 = none
@@ -20,3 +21,8 @@ deadline-at-most s (S3 O o) = if eqb (s .solo) 1 then some (later-at-most o (B s
 deadline-at-most s (S4 M m O o) = some (later-at-most o (FJ s (lag-at-most (lag m o))))
 deadline-at-most s (S5 O o M m) = some (later-at-most m (FL s (lag-at-most (min (lag o m) (B s)))))
 deadline-at-most s (S6 O o M m r) = some (later-at-most r (lag m r))
+
+-- the distance from now to such a deadline
+abbrev pub distance-to-at-most : Stamp → Option Stamp → Option ℤ
+distance-to-at-most now none = none
+distance-to-at-most now (some d) = some (distance-at-most now d)

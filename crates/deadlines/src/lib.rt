@@ -1,10 +1,11 @@
-// When a resting state is due, and whether a machine is well formed. key is M, a character key pressed at m, thumb is O, a
-// thumb pressed at o, r is the thumb's release.
+// Whether a resting state is due, how far its deadline lies from a stamp, and whether a machine is well formed. key is M, a
+// character key pressed at m, thumb is O, a thumb pressed at o, r is the thumb's release.
 use rules::Machine;
 use rules::Resting;
 use rules::Settings;
 use rules::Stamp;
 use waits::at_or_before;
+use waits::before;
 use waits::character_first_wait;
 use waits::character_wait;
 use waits::is_key;
@@ -14,25 +15,32 @@ use waits::shorter;
 use waits::thumb_first_wait;
 use waits::thumb_wait;
 ghost use mathlib.Core.Path.{_≡_};
-ghost use Rattle.rules.specs.States.{keys-below, stamps-by, in-order, well-formed, asking};
+ghost use Rattle.rules.specs.States.{keys-below, stamps-by, in-order, well-formed};
+ghost use Rattle.rules.specs.OneEvent.{due-by};
+ghost use Rattle.rules.specs.Distance.{at-stamp, asking};
 ghost use Rattle.deadlines.specs.Views.{when, asked};
-ghost use Rattle.deadlines.specs.Capped.{deadline-at-most};
+ghost use Rattle.deadlines.specs.Capped.{deadline-at-most, distance-to-at-most};
 
-// The deadline of a resting state, if it has one.
-pub enum Due {
+// The deadline of a resting state, if it has one. It does not leave this crate: a caller is told a distance.
+enum Due {
     Never,
     At(Stamp),
 }
 
-// The answer to a machine that is asked for its next deadline.
+// The answer to a machine that is asked, at a stamp, how far its next deadline lies from there.
 pub enum Asked {
     // Refusal 2.
     NotWellFormed,
-    Never,
-    At(Stamp),
+    // Refusal 4.
+    AboveLargest,
+    // Refusal 5.
+    BeforeLast,
+    NoDeadline,
+    // Milliseconds: positive still to wait, 0 due now, negative overdue.
+    In(i64),
 }
 
-pub fn deadline(s: Settings, resting: Resting) -> Due
+fn deadline(s: Settings, resting: Resting) -> Due
     ensures { λ r. ⌜ when r ≡ deadline-at-most s resting ⌝ }
 {
     match resting {
@@ -120,17 +128,41 @@ pub fn well_formed(machine: Machine) -> bool
     in_order(resting)
 }
 
-// The next deadline of any machine.
-pub fn next_deadline(machine: Machine) -> Asked
-    ensures { λ r. ⌜ asked r ≡ asking machine ⌝ }
+// Whether a resting state is due at a stamp.
+pub fn is_due(s: Settings, now: Stamp, resting: Resting) -> bool
+    ensures { λ r. ⌜ r ≡ due-by now (deadline-at-most s resting) ⌝ }
+{
+    match deadline(s, resting) {
+        Due::Never => false,
+        Due::At(stamp) => at_or_before(stamp, now),
+    }
+}
+
+// The answer at any stamp, whatever was accepted last, for a deadline.
+fn at_stamp(last: Stamp, now: Stamp, due: Due) -> Asked
+    ensures { λ r. ⌜ asked r ≡ at-stamp last now (distance-to-at-most now (when due)) ⌝ }
+{
+    if before(Machine::LARGEST, now) {
+        return Asked::AboveLargest;
+    }
+    if before(now, last) {
+        return Asked::BeforeLast;
+    }
+    match due {
+        Due::Never => Asked::NoDeadline,
+        Due::At(stamp) => Asked::In(waits::distance(now, stamp)),
+    }
+}
+
+// How far the next deadline of any machine lies from any stamp.
+pub fn distance(machine: Machine, now: Stamp) -> Asked
+    ensures { λ r. ⌜ asked r ≡ asking machine now ⌝ }
 {
     if !well_formed(machine) {
         return Asked::NotWellFormed;
     }
     let s = machine.settings;
     let resting = machine.resting;
-    match deadline(s, resting) {
-        Due::Never => Asked::Never,
-        Due::At(stamp) => Asked::At(stamp),
-    }
+    let last = machine.last;
+    at_stamp(last, now, deadline(s, resting))
 }

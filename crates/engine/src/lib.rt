@@ -1,9 +1,8 @@
 // One event at a machine: whether it is refused, what it commits and sends, and the machine after it. A machine is opened by
 // `rules::Machine::open`; what else a caller asks of one is passed on from the crates below.
 pub use deadlines::Asked;
-use deadlines::Due;
-use deadlines::deadline;
-pub use deadlines::next_deadline;
+pub use deadlines::distance;
+use deadlines::is_due;
 pub use deadlines::well_formed;
 use effects::Effect;
 pub use preview::Items;
@@ -21,7 +20,6 @@ use rules::Thumb;
 use states::act;
 use states::in_s1;
 use states::late;
-use waits::at_or_before;
 use waits::before;
 use waits::is_key;
 pub use waits::longest_wait;
@@ -33,7 +31,7 @@ ghost use mathlib.Core.Option.{none, some};
 ghost use lib.Dec.{eqb};
 ghost use Rattle.rules.specs.Choice.{if_then_else_};
 ghost use Rattle.rules.specs.States.{is-key, deadline, well-formed};
-ghost use Rattle.rules.specs.OneEvent.{due-by, one-event};
+ghost use Rattle.rules.specs.OneEvent.{one-event};
 ghost use Rattle.rules.specs.GivenBack.{input, judge-stamp, judge, refusal, acceptance, step};
 ghost use Rattle.preview.specs.Views.{Sends};
 ghost use Rattle.effects.specs.Views.{done};
@@ -152,15 +150,6 @@ fn judge(machine: Machine, event: Event) -> Verdict
     match meaning_of(event.kind, key) {
         Meaning::None => Verdict::Refused(3),
         Meaning::Some(input) => judge_stamp(last, now, input),
-    }
-}
-
-fn is_due(s: Settings, now: Stamp, resting: Resting) -> bool
-    ensures { λ r. ⌜ r ≡ due-by now (deadline-at-most s resting) ⌝ }
-{
-    match deadline(s, resting) {
-        Due::Never => false,
-        Due::At(stamp) => at_or_before(stamp, now),
     }
 }
 

@@ -11,4 +11,6 @@ pub mod Presses
 pub mod Screen
 pub mod Ticks
 pub mod Demand3
+pub mod Signed
+pub mod DistanceFacts
 pub mod Tried

@@ -47,11 +47,11 @@ due-later : (u v : Stamp) → u .0 ≤ v .0 → (d : Option Stamp) → due-by u 
 due-later u v le none h = h
 due-later u v le (some d) h = le-leb (d .0) (v .0) (le-trans (leb-true (d .0) (u .0) h) le)
 
-settle-due : (s : Settings) (now : Stamp) (y : Resting) → due-by now (deadline s y) ≡ true → settle s now y ≡ late s y
+pub settle-due : (s : Settings) (now : Stamp) (y : Resting) → due-by now (deadline s y) ≡ true → settle s now y ≡ late s y
 unfolding settle
 settle-due s now y h = rw h
 
-settle-not-due : (s : Settings) (now : Stamp) (y : Resting) → due-by now (deadline s y) ≡ false → settle s now y ≡ (nothing leaving y)
+pub settle-not-due : (s : Settings) (now : Stamp) (y : Resting) → due-by now (deadline s y) ≡ false → settle s now y ≡ (nothing leaving y)
 unfolding settle
 settle-not-due s now y h = rw h
 
@@ -104,7 +104,7 @@ act-tick s now (S4 M m O o) = refl
 act-tick s now (S5 O o M m) = refl
 act-tick s now (S6 O o M m r) = refl
 
-one-tick : (s : Settings) (now : Stamp) (y : Resting) → one-event s now y Tick ≡ settle s now y
+pub one-tick : (s : Settings) (now : Stamp) (y : Resting) → one-event s now y Tick ≡ settle s now y
 unfolding one-event
 one-tick s now y =
     ap (after-items (settle s now y .items)) (act-tick s now (settle s now y .resting))

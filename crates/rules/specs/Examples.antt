@@ -1,16 +1,19 @@
--- Document 01, "Keystrokes to try": the examples P1 to P11 as one table (P8 as 1/12 of document 02 has it), and the numbers that
--- 01 works out as another. The proofs are in proofs/Examples.antt.
-use Prim.Native.Nat.{ℕ}
+-- Document 01, "Keystrokes to try": the examples P1 to P11 as one table (P8 as 1/12 of document 02 has it), the numbers that
+-- 01 works out as another, and distances of 3/12 as a third. The proofs are in proofs/Examples.antt.
+use Prim.Native.Nat.{ℕ, _+_}
 use Prim.Native.Char.{code}
 use Prim.Native.String.{String}
 use mathlib.Core.List.{List, [], _∷_, _++_, map}
+use mathlib.Core.Option.{none, some}
 use mathlib.Core.Path.{_≡_}
-use Rattle.rules.specs.Numbers.{A, B, D, W, FJ}
+use lib.IntN.{pos, negsuc}
+use Rattle.rules.specs.Numbers.{largest-stamp, A, B, D, W, FJ}
 use Rattle.rules.specs.LayoutFacts.{key}
 use Rattle.rules.specs.States.{at}
 use Rattle.rules.specs.ZeroDelay.{Sending, backspace, sign}
 use Rattle.rules.specs.GivenBack.{step}
 use Rattle.rules.specs.Sequences.{state, items}
+use Rattle.rules.specs.Distance.{Asking, not-answered, asking}
 use Rattle.rules.specs.declared.Thumb.{Thumb}
 use Rattle.rules.specs.declared.Thumb.the-variants.{Left, Right}
 use Rattle.rules.specs.declared.Settings.{Settings}
@@ -53,6 +56,8 @@ pub data Line : Type 0 where
   rests : Resting → Line
   -- what the last event sent
   sent : List Sending → Line
+  -- how far the deadline lies, asked at a stamp
+  asked : ℕ → Asking → Line
 
 -- an event's kind, key and stamp
 abbrev pub arrives : ℕ → ℕ → ℕ → Line
@@ -128,6 +133,34 @@ slips =
     example "late first" usual (down 21 0 ∷ thumb Right 100 ∷ tick 200 ∷ text (か ∷ []) ∷ []) ∷
     example "rounded up" with-J-70 (down 21 0 ∷ thumb Right 10 ∷ tick 33 ∷ nothing ∷ tick 34 ∷ text (が ∷ []) ∷ []) ∷ []
 
+-- The answers to one that asks. A machine whose settings are out of range is not well formed.
+abbrev pub to-wait : ℕ → Asking
+to-wait n = record { number = 0; distance = some (pos n) }
+
+abbrev pub due-now : Asking
+due-now = to-wait 0
+
+abbrev pub one-late : Asking
+one-late = record { number = 0; distance = some (negsuc 0) }
+
+abbrev pub no-deadline : Asking
+no-deadline = record { number = 0; distance = none }
+
+abbrev pub refused : ℕ → Asking
+refused n = not-answered n
+
+-- Distances of 3/12, before, at and after P1's deadline; and its refusals.
+abbrev pub distances : List Example
+distances =
+    example "to the deadline of P1" usual
+    (asked 0 no-deadline ∷ down 21 0 ∷ asked 0 (to-wait 100) ∷ asked 99 (to-wait 1) ∷ asked 100 due-now ∷ asked 101 one-late ∷
+    tick 100 ∷ asked 100 no-deadline ∷ []) ∷
+    example "a thumb alone, solo 0" usual (thumb Right 0 ∷ asked 1000 no-deadline ∷ []) ∷
+    example "a thumb alone, solo 1" with-solo (thumb Right 0 ∷ asked 40 (to-wait 60) ∷ []) ∷
+    example "refused" usual
+    (down 21 50 ∷ asked 49 (refused 5) ∷ asked 50 (to-wait 100) ∷ asked (largest-stamp + 1) (refused 4) ∷ []) ∷
+    example "refused as a state" (settings 49 50 50 0) (asked 0 (refused 2) ∷ asked (largest-stamp + 1) (refused 2) ∷ []) ∷ []
+
 -- The lines as the rules have them: each thing that 01 says is replaced by what there is. es are the events so far, from a
 -- fresh state; q is what the last of them sent.
 abbrev pub observed-lines : Settings → List Event → List Sending → List Line → List Line
@@ -136,6 +169,7 @@ observed-lines s es q (event e ∷ ls) = event e ∷ observed-lines s (es ++ (e 
 observed-lines s es q (text said ∷ ls) = text (items s es) ∷ observed-lines s es q ls
 observed-lines s es q (rests said ∷ ls) = rests (state s es .resting) ∷ observed-lines s es q ls
 observed-lines s es q (sent said ∷ ls) = sent q ∷ observed-lines s es q ls
+observed-lines s es q (asked n said ∷ ls) = asked n (asking (state s es) (at n)) ∷ observed-lines s es q ls
 
 abbrev pub observed : Example → Example
 observed x = example (x .name) (x .settings) (observed-lines (x .settings) [] [] (x .lines))
@@ -146,6 +180,9 @@ ExamplesHold = map observed examples ≡ examples
 
 abbrev pub SlipsHold : Type 0
 SlipsHold = map observed slips ≡ slips
+
+abbrev pub DistancesHold : Type 0
+DistancesHold = map observed distances ≡ distances
 
 -- A number that 01 works out.
 pub data Number : Type 0 where

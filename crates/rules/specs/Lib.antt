@@ -10,4 +10,6 @@ pub mod Refusals
 pub mod Sequences
 pub mod Demand3
 pub mod StepFacts
+pub mod Distance
+pub mod DistanceFacts
 pub mod Examples

@@ -94,14 +94,3 @@ opening s = if in-range s then record { number = 0; machine = some (fresh s) } e
 abbrev pub opened : Opened → Opening
 opened OutOfRange = record { number = 1; machine = none }
 opened (Ready m) = record { number = 0; machine = some m }
-
--- Asking for the next deadline: the number given back, and the deadline if there is one.
-pub record Asking : Type 0 where
-  pub number : ℕ
-  pub deadline : Option Stamp
-
--- only refusal 2 applies
-unfoldable pub asking : Machine → Asking
-asking x =
-    if well-formed x then record { number = 0; deadline = deadline (x .settings) (x .resting) }
-    else record { number = 2; deadline = none }

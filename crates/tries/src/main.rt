@@ -1,5 +1,6 @@
 // Runs the keystrokes of document 01 that are not among the proved ones, and prints what the engine answers: the number, the items
-// that are committed, and what is sent. A backspace is written `<-`, a mark `<L>` or `<R>`, an empty face `-`.
+// that are committed, what is sent, and how far the next deadline lies from the event's stamp. A backspace is written `<-`, a
+// mark `<L>` or `<R>`, an empty face `-`.
 use engine::Asked;
 use engine::Items;
 use engine::Sendings;
@@ -12,6 +13,8 @@ use rules::Opened;
 use rules::Resting;
 use rules::Settings;
 use rules::Stamp;
+ghost use lib.IntN.{pos};
+ghost use lib.Signed.{_<ℤ_};
 
 fn say(text: &[u8]) {
     io::write_all(STDOUT_FILENO, text);
@@ -88,12 +91,43 @@ fn say_sendings(sent: Sendings) {
     say_sent(signs.third);
 }
 
-fn say_deadline(machine: Machine) {
-    match engine::next_deadline(machine) {
-        Asked::NotWellFormed => say(b"refused 2"),
-        Asked::Never => say(b"none"),
-        Asked::At(stamp) => say_number(stamp.0),
+// How far a negative number lies below 0. (0 - n would not fit for the least of them.)
+fn below_zero(n: i64) -> u64
+    requires { ⌜ n <ℤ pos 0 ⌝ }
+{
+    (-1 - n) as u64 + 1
+}
+
+// A signed count of milliseconds, its sign before it.
+fn say_signed(n: i64) {
+    if n < 0 {
+        say(b"-");
+        say_number(below_zero(n));
+    } else {
+        if n != 0 {
+            say(b"+");
+        }
+        say_number(n as u64);
     }
+}
+
+fn say_distance(machine: Machine, now: Stamp) {
+    match engine::distance(machine, now) {
+        Asked::NotWellFormed => say(b"refused 2"),
+        Asked::AboveLargest => say(b"refused 4"),
+        Asked::BeforeLast => say(b"refused 5"),
+        Asked::NoDeadline => say(b"none"),
+        Asked::In(n) => say_signed(n),
+    }
+}
+
+// How far a machine's deadline lies from a stamp, on a line.
+fn ask(machine: Machine, stamp: u64) {
+    say(b"  asked @");
+    say_number(stamp);
+    say(b": ");
+    say_distance(machine, Stamp(stamp));
+    say(b"\n");
 }
 
 // One event, with what it gave back on a line; the machine after it.
@@ -122,7 +156,7 @@ fn event(machine: Machine, kind: u8, key: u8, stamp: u64) -> Machine {
     say(b", sends");
     say_sendings(sent);
     say(b", next ");
-    say_deadline(after);
+    say_distance(after, Stamp(stamp));
     say(b"\n");
     after
 }
@@ -207,6 +241,22 @@ fn late_first() {
     event(m, 6, 0, 200);
 }
 
+// 21@0, and how far its deadline lies: at its stamp, before it, and late.
+fn overdue() {
+    let m = open(100, 50, 50, 0);
+    ask(m, 0);
+    let m = event(m, 1, 21, 0);
+    ask(m, 40);
+    ask(m, 100);
+    ask(m, 130);
+    ask(m, 1_000_000_000_000);
+    ask(m, 1_000_000_000_001);
+    let m = event(m, 6, 0, 50);
+    ask(m, 49);
+    let out = open(49, 50, 50, 0);
+    ask(out, 1_000_000_000_001);
+}
+
 fn main() {
     say(
         b"Kinds: 1 character down, 2 up, 3 thumb down, 4 up, 5 function, 6 tick. Thumbs: 0 left, 1 right.\n",
@@ -214,4 +264,5 @@ fn main() {
     settings();
     refusals();
     late_first();
+    overdue();
 }

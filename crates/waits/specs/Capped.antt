@@ -1,8 +1,9 @@
--- What the functions of this crate answer where document 01's number might not fit: the bounds of a sum and of a lag that is
--- multiplied. In a machine that is well formed neither bound is met.
+-- What the functions of this crate answer where document 01's number might not fit: the bounds of a sum, of a lag that is
+-- multiplied and of a stamp that is subtracted. In a machine that is well formed, at a stamp that it accepts, none is met.
 use Prim.Native.Nat.{ℕ, _+_, min}
 use mathlib.Core.Bool.{Bool}
 use lib.Dec.{ltb}
+use lib.IntN.{ℤ, pos, _-ℤ_}
 use Rattle.rules.specs.Numbers.{largest-stamp}
 use Rattle.rules.specs.States.{at}
 use Rattle.rules.specs.declared.Stamp.{Stamp}
@@ -18,6 +19,18 @@ later-at-most a x = at (min (a .0 + x) largest-number)
 -- a lag, or the largest stamp
 unfoldable pub lag-at-most : ℕ → ℕ
 lag-at-most x = min x largest-stamp
+
+-- the largest number that a signed count can hold
+abbrev pub largest-signed : ℕ
+largest-signed = 9_223_372_036_854_775_807
+
+-- a stamp as a signed number, or the largest of these
+unfoldable pub signed-at-most : Stamp → ℤ
+signed-at-most a = pos (min (a .0) largest-signed)
+
+-- the signed count from now to d
+abbrev pub distance-at-most : Stamp → Stamp → ℤ
+distance-at-most now d = signed-at-most d -ℤ signed-at-most now
 
 abbrev pub is-before : Stamp → Stamp → Bool
 is-before a b = ltb (a .0) (b .0)

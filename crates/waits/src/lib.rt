@@ -1,6 +1,7 @@
 // Arithmetic of stamps and lags. Stamps, lags and key numbers are unwrapped here, and where a key is an index into the layout.
-// Every function takes any numbers: a sum that would not fit stops at the largest number, and a lag that is multiplied
-// counts as the largest stamp at most. Neither bound is met in a machine that is well formed.
+// Every function takes any numbers: a sum that would not fit stops at the largest number, a lag that is multiplied counts as
+// the largest stamp at most, and a stamp that is subtracted as the largest signed number. None of these bounds is met in a
+// machine that is well formed, at a stamp that it accepts.
 use rules::Key;
 use rules::Lag;
 use rules::Machine;
@@ -12,10 +13,13 @@ ghost use Rattle.rules.specs.Numbers as Numbers;
 ghost use Rattle.rules.specs.Numbers.{largest-stamp, up};
 ghost use Rattle.rules.specs.States.{lag, at-or-before, is-key};
 ghost use Rattle.rules.specs.OneEvent.{same-key, second-character-takes-thumb, second-thumb-takes-character, short-overlap};
-ghost use Rattle.waits.specs.Capped.{later-at-most, lag-at-most, is-before};
+ghost use Rattle.waits.specs.Capped.{later-at-most, lag-at-most, signed-at-most, distance-at-most, is-before};
 
 // The largest number that a stamp can hold.
 const LARGEST_NUMBER: u64 = 18_446_744_073_709_551_615;
+
+// The largest number that a signed count can hold.
+const LARGEST_SIGNED: u64 = 9_223_372_036_854_775_807;
 
 // The lag from one stamp to another, none where the other is not later.
 pub fn lag(from: Stamp, to: Stamp) -> Lag
@@ -39,6 +43,24 @@ pub fn later(from: Stamp, by: Lag) -> Stamp
         return Stamp(LARGEST_NUMBER);
     }
     Stamp(start + more)
+}
+
+// A stamp as a signed number.
+fn signed(stamp: Stamp) -> i64
+    ensures { λ r. ⌜ r ≡ signed-at-most stamp ⌝ }
+{
+    let n = stamp.0;
+    if LARGEST_SIGNED < n {
+        return LARGEST_SIGNED as i64;
+    }
+    n as i64
+}
+
+// The milliseconds from now to another stamp, negative where that has passed.
+pub fn distance(now: Stamp, to: Stamp) -> i64
+    ensures { λ r. ⌜ r ≡ distance-at-most now to ⌝ }
+{
+    signed(to) - signed(now)
 }
 
 pub fn at_or_before(a: Stamp, b: Stamp) -> bool

@@ -1,7 +1,7 @@
--- `engine::is_due` meets its contract.
+-- `deadlines::is_due` meets its contract.
 use borrow.Author.Needs.{needs}
-use Rattle.engine.proofs.is_due.Statement.{statement}
-use Rattle.engine.proofs.is_due.Tie as tie
+use Rattle.deadlines.proofs.is_due.Statement.{statement}
+use Rattle.deadlines.proofs.is_due.Tie as tie
 
 pub is-due-spec : {M : Type 1} → statement M
 is-due-spec =

@@ -1,0 +1,239 @@
+-- What a host leans on when it asks for the distance.
+use Prim.Native.Nat.{ℕ, zero, suc, _+_, _-_, _≤_, _<_}
+use native.Mathlib.Omega.{arith}
+use mathlib.Core.Bool.{Bool, true, false, cond}
+use mathlib.Core.List.{List, [], _∷_, _++_, cons≢nil}
+use mathlib.Core.Logic.{_≢_}
+use mathlib.Core.Option.{Option, none, some}
+use mathlib.Core.Path.{_≡_, refl, sym, _∙_, ap, subst}
+use lib.Dec.{ltb, leb, eqb}
+use lib.IntN.{ℤ, pos, negsuc, subℕ, _+ℤ_, negℤ, negℤ-+ℤ, +ℤ-assoc, pos-ne-negsuc}
+use borrow.Author.Tests.{eq-eqb, ltb-true, ltb-false, le-ltb, leb-true, le-leb, lt-leb}
+use Rattle.rules.specs.Numbers.{largest-stamp}
+use Rattle.rules.specs.States.{later, deadline, well-formed}
+use Rattle.rules.specs.OneEvent.{_leaving_, nothing, mark, late, due-by, settle}
+use Rattle.rules.specs.ZeroDelay.{shown, sent}
+use Rattle.rules.specs.GivenBack.{input, Answer, acceptance, step}
+use Rattle.rules.specs.Demand3.{tick}
+use Rattle.rules.specs.Distance.{distance, distance-to, Asking, asking}
+use Rattle.rules.specs.DistanceFacts.{IsDue, Overdue, less, Unchanged, LateLine, DistanceFacts}
+use Rattle.rules.specs.declared.Stamp.{Stamp}
+use Rattle.rules.specs.declared.Settings.{Settings}
+use Rattle.rules.specs.declared.Resting.{Resting}
+use Rattle.rules.specs.declared.Resting.the-variants.{S1, S2, S3, S4, S5, S6}
+use Rattle.rules.specs.declared.Machine.{Machine}
+use Rattle.rules.specs.declared.Face.the-variants.{Plain}
+use Rattle.rules.specs.declared.Item.{Item}
+use Rattle.rules.specs.declared.Item.the-variants.{Character}
+use Rattle.rules.specs.declared.Input.the-variants.{Tick}
+use Rattle.rules.proofs.Choices.{both-ways, by-test}
+use Rattle.rules.proofs.Signed.{pos-injective, difference}
+use Rattle.rules.proofs.Steps.{step-accepted}
+use Rattle.rules.proofs.Ticks.{settle-due, settle-not-due, one-tick}
+
+-- Signed numbers.
+
+due-pos : (k : ℕ) → IsDue (pos k) → k ≡ 0
+due-pos zero h = refl
+due-pos (suc k) h = absurd h
+
+due-at-most : (a b : ℕ) → IsDue (subℕ a b) → a ≤ b
+due-at-most a b = go (ltb a b) refl
+  where
+    go : (t : Bool) → ltb a b ≡ t → IsDue (cond t (negsuc (b - suc a)) (pos (a - b))) → a ≤ b
+    go true e h = let lt = ltb-true a b e in omega arith
+    go false e h = let z = due-pos (a - b) h in omega arith
+
+at-most-due : (a b : ℕ) → a ≤ b → IsDue (subℕ a b)
+at-most-due a b le = go (ltb a b) refl
+  where
+    go : (t : Bool) → ltb a b ≡ t → IsDue (cond t (negsuc (b - suc a)) (pos (a - b)))
+    go true e = tt
+    go false e =
+        let ge = ltb-false a b e in
+        let z : a - b ≡ 0 = omega arith in
+        rw z tt
+
+-- n milliseconds are left
+left-over : (a b n : ℕ) → subℕ a b ≡ pos n → a ≡ b + n
+left-over a b n = go (ltb a b) refl
+  where
+    go : (t : Bool) → ltb a b ≡ t → cond t (negsuc (b - suc a)) (pos (a - b)) ≡ pos n → a ≡ b + n
+    go true e h = absurd (pos-ne-negsuc n (b - suc a) (sym h))
+    go false e h =
+        let ge = ltb-false a b e in
+        let same : a - b ≡ n = pos-injective (a - b) n h in
+        omega arith
+
+none-is-not-some : {X : Type 0} {x : X} → none ≡ some x → ⊥
+none-is-not-some e =
+    let z : _≡_ {A = ℕ} 0 1 = cc in
+    omega arith
+
+some-injective : {X : Type 0} {x y : X} → some x ≡ some y → x ≡ y
+some-injective e = cc
+
+-- What an answer says of the machine and the stamp.
+record Answers (m : Machine) (now : Stamp) : Type 0 where
+  formed : well-formed m ≡ true
+  not-above : now .0 ≤ largest-stamp
+  not-before : m .last .0 ≤ now .0
+
+answers : (m : Machine) (now : Stamp) → asking m now .number ≡ 0 → Answers m now
+unfolding asking
+answers m now =
+    by-test (λ (a : Asking). a .number ≡ 0 → Answers m now) (well-formed m)
+    (λ w. by-test (λ (a : Asking). a .number ≡ 0 → Answers m now) (ltb largest-stamp (now .0)) (λ _ z. absurd (omega arith))
+    (λ low. by-test (λ (a : Asking). a .number ≡ 0 → Answers m now) (ltb (now .0) (m .last .0)) (λ _ z. absurd (omega arith))
+    (λ late z. record { formed = w; not-above = ltb-false _ _ low; not-before = ltb-false _ _ late })))
+    (λ _ z. absurd (omega arith))
+
+module _ (m : Machine) (now : Stamp) (a : Answers m now) where
+  due : Option Stamp
+  due = deadline (m .settings) (m .resting)
+
+  answer-is : asking m now ≡ record { number = 0; distance = distance-to now (deadline (m .settings) (m .resting)) }
+  unfolding asking
+  answer-is = rw (a .formed, le-ltb largest-stamp (now .0) (a .not-above), le-ltb (now .0) (m .last .0) (a .not-before))
+
+  -- a tick settles
+  tick-settles : step m (tick now) ≡ acceptance m now (settle (m .settings) now (m .resting))
+  unfolding input
+  tick-settles =
+      step-accepted m (tick now) Tick (a .formed) refl (a .not-above) (a .not-before)
+      ∙ ap (acceptance m now) (one-tick (m .settings) now (m .resting))
+
+-- a late line whose deadline is there commits something
+late-commits : (s : Settings) (y : Resting) (d : Stamp) → deadline s y ≡ some d → late s y .items ≢ []
+unfolding mark
+late-commits s S1 d e = absurd (none-is-not-some e)
+late-commits s (S2 M m) d e = cons≢nil
+late-commits s (S3 O o) d e =
+    by-test (λ (t : Option Stamp). t ≡ some d → mark s O ≢ []) (eqb (s .solo) 1)
+    (λ t _. rw t cons≢nil)
+    (λ _ f. absurd (none-is-not-some f))
+    e
+late-commits s (S4 M m O o) d e = cons≢nil
+late-commits s (S5 O o M m) d e = cons≢nil
+late-commits s (S6 O o M m r) d e =
+    both-ways (λ (l : List Item). l ++ (Character M Plain ∷ []) ≢ []) (eqb (s .solo) 1) cons≢nil cons≢nil
+
+-- what is shown already is not sent again
+sent-same : (p : List ℕ) → sent p p ≡ []
+unfolding sent
+sent-same [] = refl
+sent-same (c ∷ p) = rw (eq-eqb c c refl) (sent-same p)
+
+-- d milliseconds later, d less
+distance-later : (now : Stamp) (d : ℕ) (o : Option Stamp) → distance-to (later now d) o ≡ less d (distance-to now o)
+distance-later now d none = refl
+distance-later now d (some e) =
+    ap some
+    (ap (λ (z : ℤ). pos (e .0) +ℤ z) (negℤ-+ℤ (pos (now .0)) (pos d))
+    ∙ sym (+ℤ-assoc (pos (e .0)) (negℤ (pos (now .0))) (negℤ (pos d))))
+
+module _ (m : Machine) (now : Stamp) (a : Answers m now) where
+  -- the answer by the state's deadline
+  asked : (o : Option Stamp) → deadline (m .settings) (m .resting) ≡ o → asking m now .distance ≡ distance-to now o
+  asked o e = ap (λ (r : Asking). r .distance) (answer-is m now a) ∙ ap (distance-to now) e
+
+  items-settled : step m (tick now) .items ≡ settle (m .settings) now (m .resting) .items
+  items-settled = ap (λ (r : Answer). r .items) (tick-settles m now a)
+
+  tick-late : due-by now (deadline (m .settings) (m .resting)) ≡ true
+      → step m (tick now) ≡ acceptance m now (late (m .settings) (m .resting))
+  tick-late h = tick-settles m now a ∙ ap (acceptance m now) (settle-due (m .settings) now (m .resting) h)
+
+  tick-idle : due-by now (deadline (m .settings) (m .resting)) ≡ false
+      → step m (tick now) ≡ acceptance m now (nothing leaving (m .resting))
+  tick-idle h = tick-settles m now a ∙ ap (acceptance m now) (settle-not-due (m .settings) now (m .resting) h)
+
+  idle-commits-nothing : due-by now (deadline (m .settings) (m .resting)) ≡ false → step m (tick now) .items ≡ []
+  idle-commits-nothing h = ap (λ (r : Answer). r .items) (tick-idle h)
+
+  due-commits : Overdue (asking m now .distance) → step m (tick now) .items ≢ []
+  due-commits over = go (deadline (m .settings) (m .resting)) refl
+    where
+      go : (o : Option Stamp) → deadline (m .settings) (m .resting) ≡ o → step m (tick now) .items ≢ []
+      go none e = absurd (none-is-not-some (sym (asked none e) ∙ over .is-answer))
+      go (some d) e =
+          let same : over .distance ≡ subℕ (d .0) (now .0) =
+          some-injective (sym (over .is-answer) ∙ asked (some d) e) ∙ difference (d .0) (now .0) in
+          let le = due-at-most (d .0) (now .0) (subst IsDue same (over .is-due)) in
+          let is-due = ap (due-by now) e ∙ le-leb (d .0) (now .0) le in
+          λ none-left. late-commits (m .settings) (m .resting) d e (sym (ap (λ (r : Answer). r .items) (tick-late is-due)) ∙ none-left)
+
+  commits-due : step m (tick now) .items ≢ [] → Overdue (asking m now .distance)
+  commits-due some-left = go (deadline (m .settings) (m .resting)) refl
+    where
+      by : (d : Stamp) → deadline (m .settings) (m .resting) ≡ some d → (t : Bool) → leb (d .0) (now .0) ≡ t
+          → Overdue (asking m now .distance)
+      by d e true h =
+          record {
+            distance = distance now d;
+            is-answer = asked (some d) e;
+            is-due = subst IsDue (sym (difference (d .0) (now .0))) (at-most-due (d .0) (now .0) (leb-true _ _ h));
+          }
+      by d e false h = absurd (some-left (idle-commits-nothing (ap (due-by now) e ∙ h)))
+
+      go : (o : Option Stamp) → deadline (m .settings) (m .resting) ≡ o → Overdue (asking m now .distance)
+      go none e = absurd (some-left (idle-commits-nothing (ap (due-by now) e)))
+      go (some d) e = by d e (leb (d .0) (now .0)) refl
+
+  -- later, with no event between
+  answers-later : (d : ℕ) → now .0 + d ≤ largest-stamp → Answers m (later now d)
+  answers-later d h =
+      let before = a .not-before in
+      record { formed = a .formed; not-above = h; not-before = omega arith }
+
+  later-is-less : (d : ℕ) → now .0 + d ≤ largest-stamp
+      → asking m (later now d) ≡ record { number = 0; distance = less d (asking m now .distance) }
+  later-is-less d h =
+      answer-is m (later now d) (answers-later d h)
+      ∙ ap (λ (z : Option ℤ). record { number = 0; distance = z })
+      (distance-later now d (deadline (m .settings) (m .resting)) ∙ ap (less d) (sym (asked _ refl)))
+
+  -- n milliseconds are left
+  deadline-in : (n : ℕ) → asking m now .distance ≡ some (pos n) → deadline (m .settings) (m .resting) ≡ some (later now n)
+  deadline-in n h = go (deadline (m .settings) (m .resting)) refl
+    where
+      go : (o : Option Stamp) → deadline (m .settings) (m .resting) ≡ o → o ≡ some (later now n)
+      go none e = absurd (none-is-not-some (sym (asked none e) ∙ h))
+      go (some d) e =
+          let is : d .0 ≡ now .0 + n =
+          left-over (d .0) (now .0) n (sym (difference (d .0) (now .0)) ∙ some-injective (sym (asked (some d) e) ∙ h)) in
+          ap (λ (k : ℕ). some (record { 0 = k })) is
+
+module _ (m : Machine) (now : Stamp) (a : Answers m now) where
+  early-tick : (n : ℕ) → asking m now .distance ≡ some (pos n) → (d : ℕ) → d < n → now .0 + d ≤ largest-stamp
+      → Unchanged m (step m (tick (later now d)))
+  early-tick n h d lt low =
+      let b = answers-later m now a d low in
+      let idle =
+      tick-idle m (later now d) b
+      (ap (due-by (later now d)) (deadline-in m now a n h) ∙ lt-leb (now .0 + n) (now .0 + d) (omega arith)) in
+      record {
+        no-items = ap (λ (r : Answer). r .items) idle;
+        no-sendings = ap (λ (r : Answer). r .sendings) idle ∙ sent-same (shown (m .resting));
+        same-resting = ap (λ (r : Answer). r .machine .resting) idle;
+      }
+
+  tick-on-time : (n : ℕ) → asking m now .distance ≡ some (pos n) → now .0 + n ≤ largest-stamp
+      → LateLine m (step m (tick (later now n)))
+  tick-on-time n h low =
+      let b = answers-later m now a n low in
+      let done =
+      tick-late m (later now n) b
+      (ap (due-by (later now n)) (deadline-in m now a n h) ∙ le-leb (now .0 + n) (now .0 + n) (omega arith)) in
+      record { late-items = ap (λ (r : Answer). r .items) done; late-resting = ap (λ (r : Answer). r .machine .resting) done }
+
+pub distance-facts : (m : Machine) (now : Stamp) → asking m now .number ≡ 0 → DistanceFacts m now
+distance-facts m now answered =
+    let a = answers m now answered in
+    record {
+      due-commits = due-commits m now a;
+      commits-due = commits-due m now a;
+      later-is-less = later-is-less m now a;
+      early-tick = early-tick m now a;
+      tick-on-time = tick-on-time m now a;
+    }
