@@ -1,0 +1,14 @@
+-- `flat::as_s4` meets its contract.
+use Rattle.flat.specs.Fields.{as-S4}
+use Rattle.flat.proofs.as_s4.Statement.{statement}
+use Rattle.flat.proofs.as_s4.Tie as tie
+
+pub as-s4-spec : {M : Type 1} → statement M
+unfolding as-S4
+as-s4-spec =
+    tie.close
+    (tie.spec
+    (λ c κs. tt)
+    (λ c κs. tt)
+    (λ c. rw (← c .before .before .no-release .ensures, c .before .if1 .taken, ← c .with-thumb .ensures))
+    (λ c. rw (← c .before .no-release .ensures, c .if1 .left)))

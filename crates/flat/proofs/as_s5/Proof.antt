@@ -1,0 +1,14 @@
+-- `flat::as_s5` meets its contract.
+use Rattle.flat.specs.Fields.{as-S5}
+use Rattle.flat.proofs.as_s5.Statement.{statement}
+use Rattle.flat.proofs.as_s5.Tie as tie
+
+pub as-s5-spec : {M : Type 1} → statement M
+unfolding as-S5
+as-s5-spec =
+    tie.close
+    (tie.spec
+    (λ c κs. tt)
+    (λ c κs. tt)
+    (λ c. rw (← c .before .before .no-release .ensures, c .before .if1 .taken, ← c .with-thumb .ensures))
+    (λ c. rw (← c .before .no-release .ensures, c .if1 .left)))

@@ -1,0 +1,10 @@
+-- `flat::join` meets its contract.
+use mathlib.Core.Path.{refl}
+use Rattle.flat.proofs.join.Statement.{statement}
+use Rattle.flat.proofs.join.Tie as tie
+
+pub join-spec : {M : Type 1} → statement M
+join-spec =
+    tie.close
+    (tie.spec
+    (λ c. refl))

@@ -1,0 +1,16 @@
+-- `flat::machine_of` meets its contract.
+use borrow.Author.Needs.{needs}
+use Rattle.flat.specs.Fields.{named}
+use Rattle.flat.proofs.machine_of.Statement.{statement}
+use Rattle.flat.proofs.machine_of.Tie as tie
+
+pub machine-of-spec : {M : Type 1} → statement M
+unfolding named
+machine-of-spec =
+    tie.close
+    (tie.spec
+    (λ c κs. tt)
+    (λ c. search needs)
+    (λ c. search needs)
+    (λ c. rw (← c .before .before .find .ensures, c .enum-told .given .1))
+    (λ c. rw (← c .before .before .before .find .ensures, c .before .resting .given .1)))

@@ -1,0 +1,124 @@
+-- The numbers of a machine (`flat`), and the machine that numbers name (`named`). M is a character key pressed at m, O a thumb
+-- pressed at o, r the thumb's release. Any key, stamps and settings are allowed here: whether a machine is well formed is asked of
+-- the machine.
+use Prim.Native.Nat.{ℕ}
+use mathlib.Core.Bool.{Bool, _&&_}
+use mathlib.Core.Option.{Option, none, some}
+use lib.Dec.{eqb}
+use Rattle.rules.specs.Choice.{if_then_else_}
+use Rattle.rules.specs.States.{at}
+use Rattle.rules.specs.declared.Key.{Key}
+use Rattle.rules.specs.declared.Thumb.{Thumb}
+use Rattle.rules.specs.declared.Thumb.the-variants.{Left, Right}
+use Rattle.rules.specs.declared.Settings.{Settings}
+use Rattle.rules.specs.declared.Resting.{Resting}
+use Rattle.rules.specs.declared.Resting.the-variants.{S1, S2, S3, S4, S5, S6}
+use Rattle.rules.specs.declared.Machine.{Machine}
+use Rattle.flat.specs.declared.Flat.{Flat}
+
+-- 0 is the left thumb, 1 the right one
+unfoldable pub thumb-number : Thumb → ℕ
+thumb-number Left = 0
+thumb-number Right = 1
+
+-- the numbers of what rests
+pub record Rest : Type 0 where
+  pub state : ℕ
+  pub key : ℕ
+  pub m : ℕ
+  pub thumb : ℕ
+  pub o : ℕ
+  pub r : ℕ
+
+-- a number that a state does not use is 0
+abbrev pub rest : Resting → Rest
+rest S1 = record { state = 1; key = 0; m = 0; thumb = 0; o = 0; r = 0 }
+rest (S2 M m) = record { state = 2; key = M .0; m = m .0; thumb = 0; o = 0; r = 0 }
+rest (S3 O o) = record { state = 3; key = 0; m = 0; thumb = thumb-number O; o = o .0; r = 0 }
+rest (S4 M m O o) = record { state = 4; key = M .0; m = m .0; thumb = thumb-number O; o = o .0; r = 0 }
+rest (S5 O o M m) = record { state = 5; key = M .0; m = m .0; thumb = thumb-number O; o = o .0; r = 0 }
+rest (S6 O o M m r) = record { state = 6; key = M .0; m = m .0; thumb = thumb-number O; o = o .0; r = r .0 }
+
+-- these beside the settings and the last accepted stamp
+abbrev pub joined : Machine → Rest → Flat
+joined x n =
+    record {
+      last = x .last .0;
+      m = n .m;
+      o = n .o;
+      r = n .r;
+      t = x .settings .t;
+      j = x .settings .j;
+      l = x .settings .l;
+      solo = x .settings .solo;
+      state = n .state;
+      key = n .key;
+      thumb = n .thumb;
+    }
+
+-- the numbers of a machine
+unfoldable pub flat : Machine → Flat
+flat x = joined x (rest (x .resting))
+
+-- M and m are 0
+unfoldable pub no-character : Flat → Bool
+no-character f = eqb (f .key) 0 && eqb (f .m) 0
+
+-- O and o are 0
+unfoldable pub no-thumb : Flat → Bool
+no-thumb f = eqb (f .thumb) 0 && eqb (f .o) 0
+
+-- r is 0
+unfoldable pub no-release : Flat → Bool
+no-release f = eqb (f .r) 0
+
+-- M
+abbrev pub character : Flat → Key
+character f = record { 0 = f .key }
+
+-- what rests with O, if its number is 0 or 1
+abbrev pub with-thumb : Flat → (Thumb → Resting) → Option Resting
+with-thumb f x =
+    if eqb (f .thumb) 0 then some (x Left) else
+    if eqb (f .thumb) 1 then some (x Right) else none
+
+-- what rests in each state, if what the state does not use is 0
+unfoldable pub as-S1 : Flat → Option Resting
+as-S1 f = if no-character f && no-thumb f && no-release f then some S1 else none
+
+unfoldable pub as-S2 : Flat → Option Resting
+as-S2 f = if no-thumb f && no-release f then some (S2 (character f) (at (f .m))) else none
+
+unfoldable pub as-S3 : Flat → Option Resting
+as-S3 f = if no-character f && no-release f then with-thumb f (λ O. S3 O (at (f .o))) else none
+
+unfoldable pub as-S4 : Flat → Option Resting
+as-S4 f = if no-release f then with-thumb f (λ O. S4 (character f) (at (f .m)) O (at (f .o))) else none
+
+unfoldable pub as-S5 : Flat → Option Resting
+as-S5 f = if no-release f then with-thumb f (λ O. S5 O (at (f .o)) (character f) (at (f .m))) else none
+
+unfoldable pub as-S6 : Flat → Option Resting
+as-S6 f = with-thumb f (λ O. S6 O (at (f .o)) (character f) (at (f .m)) (at (f .r)))
+
+-- a state is 1 to 6
+unfoldable pub resting-named : Flat → Option Resting
+resting-named f =
+    if eqb (f .state) 1 then as-S1 f else
+    if eqb (f .state) 2 then as-S2 f else
+    if eqb (f .state) 3 then as-S3 f else
+    if eqb (f .state) 4 then as-S4 f else
+    if eqb (f .state) 5 then as-S5 f else
+    if eqb (f .state) 6 then as-S6 f else none
+
+abbrev pub settings-named : Flat → Settings
+settings-named f = record { t = f .t; j = f .j; l = f .l; solo = f .solo }
+
+-- the machine in which x rests
+abbrev pub around : Flat → Option Resting → Option Machine
+around f none = none
+around f (some x) = some (record { settings = settings-named f; resting = x; last = at (f .last) })
+
+-- the machine that numbers name, or none
+unfoldable pub named : Flat → Option Machine
+named f = around f (resting-named f)
