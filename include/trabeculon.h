@@ -1,7 +1,8 @@
 /*
  * Trabeculon: a proved key-timing engine for NICOLA thumb-shift keyboards.
- * This is its face for a C host: two functions over runs and numbers, one that
- * reads a log and one that writes the log of a line.
+ * This is its face for a C host: five functions over runs and numbers. One reads
+ * a log and one writes the log of a line; three drive a live keyboard: one opens
+ * a machine, one takes an event, one says how far away the next deadline is.
  */
 #ifndef TRABECULON_H
 #define TRABECULON_H
@@ -131,6 +132,181 @@ trabeculon_drill trabeculon_write_drill(uint16_t t, uint8_t j, uint8_t l,
                                         uint8_t solo, const uint16_t *line,
                                         size_t line_len, uint8_t *out,
                                         size_t out_len);
+
+/*
+ * A live keyboard: what its host does.
+ *
+ *   - Once: trabeculon_open with the settings.
+ *   - On each event of the keyboard: trabeculon_step with the machine, the event
+ *     and its stamp. The machine of the answer takes the place of the old one,
+ *     whatever the number; a refused step hands back the one that was given.
+ *   - Show: take the last sign on the screen back if backspace is 1; then add
+ *     those of sent_first, sent_second and sent_third that are not 0.
+ *   - The committed line grows by those of first and second that are not 0. They
+ *     are on the screen already and are not to be shown once more: after every
+ *     step the screen is the committed line and behind it the character that
+ *     waits, if one does (one whose face is empty shows nothing).
+ *   - Then: trabeculon_distance with the machine and a stamp of the keyboard, for
+ *     example the event's. If there is a deadline, arrange a tick for when it is
+ *     due: in so many milliseconds, or at once if the answer is 0 or negative. A
+ *     tick is a step with kind 6, key 0 and the stamp of the keyboard's clock at
+ *     that time. One too early or too many does no harm. Nor does a late one or a
+ *     missing one, but that signs come late, since every event first does what is
+ *     due before it. No stamp may run ahead of the keyboard's clock, or the
+ *     keyboard's next event comes before it and is refused 5.
+ *
+ * All stamps are milliseconds of the keyboard's own clock, never of the host's.
+ * The host keeps the machine. Nothing is kept here between two calls, so any
+ * number of keyboards can be driven side by side, each with its own machine.
+ */
+
+/*
+ * A machine as numbers: a keyboard's settings, its last accepted stamp and what
+ * it waits with. M is a character key, O a thumb.
+ *
+ * last     the last accepted stamp; 0 in a fresh machine
+ * m        when M was pressed: states 2, 4, 5, 6
+ * o        when O was pressed: states 3, 4, 5, 6
+ * r        when O was released: state 6
+ * t, j, l, the settings T, J, L and solo, as trabeculon_open was given them
+ * solo
+ * state    1  nothing
+ *          2  M
+ *          3  O
+ *          4  M, then O
+ *          5  O, then M
+ *          6  O, then M, then O was released
+ * key      M, 0 to 30: states 2, 4, 5, 6
+ * thumb    O, 0 left, 1 right: states 3, 4, 5, 6
+ *
+ * A host keeps these numbers and hands them on. It may look into them, and it may
+ * save them and go on later. Any numbers may be handed over; those that are no
+ * machine are refused:
+ *
+ * They name a machine if state is 1 to 6, thumb is 0 or 1 in the states that use
+ * it, and every one of m, o, r, key and thumb that the state does not use is 0.
+ * That machine is well formed if the settings are in range, key is below 31,
+ * every stamp that the state uses is at most last, last is at most
+ * 1,000,000,000,000, and m <= o in state 4, o <= m in state 5, o <= m <= r in
+ * state 6. Numbers that name no machine, or one that is not well formed, are
+ * refused 2. The machine that trabeculon_open or trabeculon_step answers beside
+ * number 0 is well formed.
+ *
+ * It is 40 bytes with no padding, so two can be compared byte for byte.
+ */
+typedef struct {
+    uint64_t last;
+    uint64_t m;
+    uint64_t o;
+    uint64_t r;
+    uint16_t t;
+    uint8_t j;
+    uint8_t l;
+    uint8_t solo;
+    uint8_t state;
+    uint8_t key;
+    uint8_t thumb;
+} trabeculon_machine;
+
+/*
+ * What opening answers.
+ *
+ * machine  beside 0: a fresh machine with these settings, state 1 and all else 0.
+ *          Beside 1: every number is 0, which names no machine.
+ * number   0  opened
+ *          1  settings out of range (T 50 to 200, J and L 1 to 99, solo 0 or 1)
+ */
+typedef struct {
+    trabeculon_machine machine;
+    uint64_t number;
+} trabeculon_opened;
+
+/*
+ * Opens a fresh machine. t is T in milliseconds, j and l are J and L in percent,
+ * and solo is 1 if a lone thumb press gives a mark, else 0.
+ */
+trabeculon_opened trabeculon_open(uint16_t t, uint8_t j, uint8_t l, uint8_t solo);
+
+/*
+ * What a step answers.
+ *
+ * machine      beside 0: the machine after the event. Beside any other number:
+ *              the one that was given, byte for byte, even if it is none.
+ * number       0  accepted
+ *              2  the numbers name no machine, or one that is not well formed
+ *              3  kind or key not allowed
+ *              4  stamp above the largest, 1,000,000,000,000
+ *              5  stamp before the last accepted one
+ *              They are tried in this order; the first that holds is given.
+ * items        how many items the event commits, 0 to 2. An item is a character,
+ *              one whose face is empty too, or a mark.
+ * first,       the items' words, in order: a character's code point, 1 for the
+ * second       left mark, 2 for the right mark, 0 for an empty face. 0 also where
+ *              there is no such item.
+ * backspace    1 if the last sign on the screen is to be taken back first, else
+ *              0. That sign is the character that waited, never a committed one.
+ * sent_first,  the signs to be shown then, in order, as words like the items'.
+ * sent_second, There are 0 to 3 of them; behind the last stands 0.
+ * sent_third
+ *
+ * Beside any number but 0, all that stands behind number is 0. The answer has 4
+ * bytes of padding at its end, so compare its fields and not its bytes.
+ */
+typedef struct {
+    trabeculon_machine machine;
+    uint32_t number;
+    uint32_t items;
+    uint16_t first;
+    uint16_t second;
+    uint16_t backspace;
+    uint16_t sent_first;
+    uint16_t sent_second;
+    uint16_t sent_third;
+} trabeculon_stepped;
+
+/*
+ * Takes one event. Kinds and keys are those of a log: 1 character down, 2
+ * character up, 3 thumb down, 4 thumb up, 5 function down, 6 tick. Key is 0 to 30
+ * for kinds 1 and 2, 0 (left) or 1 (right) for 3 and 4, 0 for 5 and 6. The stamp
+ * is the keyboard's.
+ *
+ * If the machine's deadline is at or before the stamp, what is due is done first,
+ * and then the event acts. Stepping through the events of a log commits the words
+ * that trabeculon_read_log writes for it.
+ */
+trabeculon_stepped trabeculon_step(trabeculon_machine machine, uint8_t kind,
+                                   uint8_t key, uint64_t stamp);
+
+/*
+ * What asking for the distance answers.
+ *
+ * number        0  answered
+ *               2  the numbers name no machine, or one that is not well formed
+ *               4  stamp above the largest, 1,000,000,000,000
+ *               5  stamp before the last accepted one
+ *               They are tried in this order; the first that holds is given.
+ * deadline      1 if the machine has a deadline. 0 if it has none: then no tick
+ *               is needed before the next event. 0 also beside any number but 0.
+ * milliseconds  from the stamp to the deadline: positive still to wait, 0 due
+ *               now, negative overdue by so many. 0 where deadline is 0.
+ */
+typedef struct {
+    uint32_t number;
+    uint32_t deadline;
+    int64_t milliseconds;
+} trabeculon_asked;
+
+/*
+ * Says how far the machine's next deadline is from a stamp of the keyboard's
+ * clock. Never ask with a stamp of the host's clock: the two have nothing to do
+ * with each other.
+ *
+ * While the answer for a stamp is positive, or that there is no deadline, a tick
+ * with that stamp changes only the last stamp; from 0 on it does what is due.
+ * There is no deadline in state 1, one in state 3 only with solo 1, and always
+ * one in the other states.
+ */
+trabeculon_asked trabeculon_distance(trabeculon_machine machine, uint64_t stamp);
 
 #ifdef __cplusplus
 }

@@ -1,1 +1,3 @@
 pub mod Packing
+mod Numbered
+pub mod HandedOn

@@ -1,2 +1,4 @@
 pub mod Face
 pub mod Drills
+pub mod Keyboard
+pub mod KeyboardFacts

@@ -1,0 +1,49 @@
+-- What a C host leans on when it hands a keyboard's numbers from call to call.
+use mathlib.Core.Logic.{_≢_}
+use mathlib.Core.Option.{Option, none, some}
+use mathlib.Core.Path.{_≡_, refl}
+use Rattle.rules.specs.States.{opening}
+use Rattle.rules.specs.GivenBack.{Verdict, refused, accepted, judge, answer, step}
+use Rattle.rules.specs.declared.Machine.{Machine}
+use Rattle.rules.specs.declared.Event.{Event}
+use Rattle.flat.specs.Fields.{flat, resting-named, named}
+use Rattle.flat.specs.declared.Flat.{Flat}
+use Rattle.flat.proofs.RoundTrip.{loses-nothing}
+use Rattle.host.specs.Keyboard.{no-machine, numbers-of, answered-numbers, refused-numbers, step-named, step-numbers}
+use Rattle.host.specs.KeyboardFacts.{KeyboardFacts}
+
+-- there is no state 0
+names-none : named no-machine ≡ none
+unfolding named resting-named
+names-none = refl
+
+numbers-name : (x : Option Machine) → named (numbers-of x) ≡ x
+numbers-name none = names-none
+numbers-name (some x) = loses-nothing .back x
+
+steps-on : (f : Flat) (x : Machine) (e : Event) → named f ≡ some x → named (step-numbers f e .machine) ≡ some (step x e .machine)
+unfolding step-numbers
+steps-on f x e h = rw h (loses-nothing .back (step x e .machine))
+
+-- of a machine's answer, by its verdict
+by-verdict : (f : Flat) (x : Machine) (e : Event) → flat x ≡ f → (v : Verdict)
+    → answered-numbers (answer x (e .stamp) v) .number ≢ 0
+    → answered-numbers (answer x (e .stamp) v) ≡ refused-numbers f (answered-numbers (answer x (e .stamp) v) .number)
+by-verdict f x e same (refused n) h = rw same
+by-verdict f x e same (accepted i) h = absurd (h refl)
+
+refuses : (f : Flat) (e : Event) → step-numbers f e .number ≢ 0 → step-numbers f e ≡ refused-numbers f (step-numbers f e .number)
+unfolding step-numbers step
+refuses f e = go (named f) refl
+  where
+    go : (y : Option Machine) → named f ≡ y → step-named f e y .number ≢ 0 → step-named f e y ≡ refused-numbers f (step-named f e y .number)
+    go none h k = refl
+    go (some x) h k = by-verdict f x e (loses-nothing .one-form f x h) (judge x e) k
+
+pub keyboard-facts : KeyboardFacts
+keyboard-facts =
+    record {
+      opens = λ s. numbers-name (opening s .machine);
+      steps-on = steps-on;
+      refuses = refuses;
+    }
