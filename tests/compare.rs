@@ -10,15 +10,16 @@
 
 mod compare_writer;
 
-use std::collections::BTreeMap;
 use std::process::ExitCode;
 
+use trabeculon_model::arguments::{self, named};
 use trabeculon_model::drill::{WriterSlip, WRITER_SLIPS};
 use trabeculon_model::generate::{every_place, random_case, Case};
 use trabeculon_model::log::{read_log_bytes_with, Answer};
 use trabeculon_model::model::{Slip, SLIPS};
 use trabeculon_model::program::hex;
 use trabeculon_model::random::Random;
+use trabeculon_model::tally::Tally;
 
 extern "C" {
     fn trabeculon_read_log(log: *const u8, log_len: usize, out: *mut u8, out_len: usize) -> Answer;
@@ -32,18 +33,12 @@ fn library_read_log(log: &[u8], out: &mut [u8]) -> Answer {
 
 const DEFAULT_COUNT: u64 = 200_000;
 const DEFAULT_SEED: u64 = 20_010_401;
-/// From this count on, each number that can come up must have come up.
-const ENOUGH: u64 = 10_000;
 /// The numbers of a log: not 2, since a reader opens its own state.
 const READER_NUMBERS: [u64; 8] = [0, 1, 3, 4, 5, 6, 7, 8];
 /// Bytes before and after the run, to see a write outside it.
 const GUARD: usize = 32;
 
-struct Arguments {
-    count: u64,
-    seed: u64,
-    wrong: Wrong,
-}
+type Arguments = arguments::Arguments<Wrong>;
 
 /// A wrong rule for the model, if any.
 #[derive(Clone, Copy, Default)]
@@ -71,58 +66,14 @@ fn main() -> ExitCode {
 }
 
 fn read_arguments(words: &[String]) -> Option<Arguments> {
-    let wrong = Wrong::default();
-    let mut arguments = Arguments { count: DEFAULT_COUNT, seed: DEFAULT_SEED, wrong };
-    let mut numbers = 0;
-    let mut words = words.iter().peekable();
-    while let Some(word) = words.next() {
-        if word == "--wrong-rule" {
-            let named = words.peek().and_then(|name| wrong_named(name));
-            let first = Wrong { reader: Some(SLIPS[0].1), writer: None };
-            arguments.wrong = named.unwrap_or(first);
-            if named.is_some() {
-                words.next();
-            }
-        } else {
-            let place = [&mut arguments.count, &mut arguments.seed].into_iter().nth(numbers)?;
-            *place = word.parse().ok()?;
-            numbers += 1;
-        }
-    }
-    Some(arguments)
+    let usual = Arguments { count: DEFAULT_COUNT, seed: DEFAULT_SEED, wrong: Wrong::default() };
+    let first = Wrong { reader: Some(SLIPS[0].1), writer: None };
+    Arguments::read(words, usual, first, wrong_named)
 }
 
 fn wrong_named(name: &str) -> Option<Wrong> {
     let wrong = Wrong { reader: named(&SLIPS, name), writer: named(&WRITER_SLIPS, name) };
     (wrong.reader.is_some() || wrong.writer.is_some()).then_some(wrong)
-}
-
-fn named<T: Copy>(slips: &[(&str, T)], name: &str) -> Option<T> {
-    slips.iter().find(|(n, _)| *n == name).map(|(_, slip)| *slip)
-}
-
-/// How often each number came up.
-#[derive(Default)]
-struct Tally(BTreeMap<u64, u64>);
-
-impl Tally {
-    fn add(&mut self, number: u64) {
-        *self.0.entry(number).or_default() += 1;
-    }
-
-    fn print(&self, what: &str) {
-        let times = self.0.iter().map(|(number, times)| format!(" {number}:{times}"));
-        let all: u64 = self.0.values().sum();
-        println!("compared {all} {what}; numbers{}", times.collect::<String>());
-    }
-
-    /// An error if one of these numbers never came up, where there was time enough.
-    fn complete(&self, numbers: &[u64], count: u64) -> Result<(), String> {
-        match numbers.iter().find(|number| !self.0.contains_key(number)) {
-            Some(number) if count >= ENOUGH => Err(format!("number {number} never came up")),
-            _ => Ok(()),
-        }
-    }
 }
 
 fn compare_all(arguments: &Arguments) -> Result<(), String> {
@@ -137,7 +88,7 @@ fn compare_reader(arguments: &Arguments) -> Result<(), String> {
     let mut random = Random::new(arguments.seed);
     let slip = arguments.wrong.reader;
 
-    let mut fixed = Tally::default();
+    let mut fixed: Tally = Tally::default();
     every_place(|case| {
         compare(&mut random, slip, &case).map(|answer| fixed.add(answer.number.into()))
     })?;

@@ -7,8 +7,9 @@ use trabeculon_model::lines::{every_drill, random_drill, DrillCase};
 use trabeculon_model::log::{Answer, RawSettings};
 use trabeculon_model::program::hex;
 use trabeculon_model::random::Random;
+use trabeculon_model::tally::Tally;
 
-use crate::{library_read_log, random_bytes, Arguments, Tally, GUARD};
+use crate::{library_read_log, random_bytes, Arguments, GUARD};
 
 extern "C" {
     fn trabeculon_write_drill(

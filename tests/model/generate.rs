@@ -101,17 +101,23 @@ pub fn random_events(
     let keys = [0; 3].map(|_| random.below(KEYS.into()) as u8);
     let mut events = Vec::with_capacity(count);
     for _ in 0..count {
-        let event = if refusals && random.once_in(10) {
-            refused_event(random, &machine)
-        } else {
-            accepted_event(random, &machine, &keys)
-        };
+        let event = next_event(random, &machine, &keys, refusals);
         if let Ok(step) = step(&machine, event) {
             machine = step.machine;
         }
         events.push(event);
     }
     events
+}
+
+/// An event for the machine: one that it accepts or, if asked for and only now and
+/// then, one that it refuses.
+pub fn next_event(random: &mut Random, machine: &Machine, keys: &[u8], refusals: bool) -> Event {
+    if refusals && random.once_in(10) {
+        refused_event(random, machine)
+    } else {
+        accepted_event(random, machine, keys)
+    }
 }
 
 /// Few keys, so that they are often repeated; both thumbs.
@@ -138,7 +144,7 @@ fn accepted_event(random: &mut Random, machine: &Machine, keys: &[u8]) -> Event 
 /// An event at or beside the stamp where its own rule turns: equal gaps in S4
 /// and S5, 400 ms in S4, and in S5 the longest wait that leads on to S4.
 fn turning_event(random: &mut Random, machine: &Machine, keys: &[u8]) -> Option<Event> {
-    let deadline = machine.next_deadline().ok()??;
+    let deadline = due(machine)?;
     let (kind, key, stamp) = match machine.resting {
         Resting::S4 { m, o, .. } if random.once_in(2) => (1, random.pick(keys), o + (o - m)),
         Resting::S4 { key, o, .. } => (2, key, o + SHORT_OVERLAP),
@@ -151,6 +157,12 @@ fn turning_event(random: &mut Random, machine: &Machine, keys: &[u8]) -> Option<
     Some(Event { kind, key, stamp: beside(random, machine, stamp) })
 }
 
+/// The stamp at which the machine's deadline is due, by the distance to it.
+pub fn due(machine: &Machine) -> Option<u64> {
+    let distance = machine.distance(machine.last).ok()??;
+    machine.last.checked_add_signed(distance)
+}
+
 /// One before, at or one after a stamp, if the machine accepts that.
 fn beside(random: &mut Random, machine: &Machine, stamp: u64) -> u64 {
     (stamp + random.below(3)).saturating_sub(1).clamp(machine.last, LARGEST_STAMP)
@@ -159,7 +171,7 @@ fn beside(random: &mut Random, machine: &Machine, stamp: u64) -> u64 {
 /// A stamp that the machine accepts, often at or beside its deadline.
 pub fn next_stamp(random: &mut Random, machine: &Machine) -> u64 {
     let last = machine.last;
-    let deadline = machine.next_deadline().ok().flatten();
+    let deadline = due(machine);
     let stamp = match random.below(64) {
         0..=9 => last,
         10..=37 => return beside(random, machine, deadline.unwrap_or(last)),
@@ -186,7 +198,7 @@ fn refused_event(random: &mut Random, machine: &Machine) -> Event {
 }
 
 /// A kind and key that are not allowed.
-fn forbidden(random: &mut Random) -> (u8, u8) {
+pub fn forbidden(random: &mut Random) -> (u8, u8) {
     random.pick(&[
         (0, 0),
         (7, 0),

@@ -1,12 +1,16 @@
-//! An independent model of document 01 and of requests 1/12 and 2/12 of document
+//! An independent model of document 01 and of requests 1/12 to 3/12 of document
 //! 02, and what the tests make with it.
 
+pub mod arguments;
 pub mod demand3;
 pub mod drill;
 pub mod generate;
 pub mod lines;
+pub mod live;
 pub mod log;
 pub mod model;
 pub mod notation;
 pub mod program;
 pub mod random;
+pub mod states;
+pub mod tally;

@@ -1,9 +1,10 @@
 //! `model check` tries the model against every worked example of the papers, and
-//! demand 3 and the round trip of drills on random sequences and lines. `model
-//! play` and `model drill` print what the program of that name prints for its
-//! standard input, by the model.
+//! demand 3, the round trip of drills and the distance on random sequences, lines
+//! and states. `model play` and `model drill` print what the program of that name
+//! prints for its standard input, by the model.
 
 mod check_drill;
+mod check_live;
 mod worked;
 
 use std::collections::BTreeSet;
@@ -81,6 +82,7 @@ fn check_all() -> Result<(), String> {
     check_logs()?;
     check_program()?;
     check_drill::check_all()?;
+    check_live::check_all()?;
     check_demand3()?;
     check_rules_reached()
 }
@@ -241,7 +243,7 @@ fn check_ill_formed() -> Result<(), String> {
     for machine in machines.into_iter().chain([beyond]) {
         let event = Event { kind: 9, key: 99, stamp: u64::MAX };
         expect("ill formed, an event", step(&machine, event).err(), Some(2))?;
-        expect("ill formed, the deadline", machine.next_deadline(), Err(2))?;
+        expect("ill formed, the distance", machine.distance(u64::MAX), Err(2))?;
     }
     Ok(())
 }
@@ -419,7 +421,7 @@ fn note_rules(
     late: &mut BTreeSet<(&'static str, usize)>,
 ) {
     for event in events {
-        let due = matches!(machine.next_deadline(), Ok(Some(d)) if d <= event.stamp);
+        let due = matches!(machine.distance(event.stamp), Ok(Some(wait)) if wait <= 0);
         let before = name(&machine.resting);
         let Ok(step) = step(&machine, *event) else { return };
         if due {

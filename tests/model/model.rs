@@ -1,7 +1,7 @@
-//! The key-timing machine of document 01, as request 1/12 of document 02 mends
-//! it, in plain Rust, section by section in 01's order. Written from the papers
-//! alone and never from the proved code, so that a comparison of the two says
-//! something.
+//! The key-timing machine of document 01, as requests 1/12 and 3/12 of document 02
+//! mend it, in plain Rust, section by section in 01's order. Written from the
+//! papers alone and never from the proved code, so that a comparison of the two
+//! says something.
 
 // ---- Numbers ----
 
@@ -186,13 +186,21 @@ impl Machine {
         resting && last <= LARGEST_STAMP
     }
 
-    /// The next deadline, if there is one; refusal 2 for a state not well formed.
-    pub fn next_deadline(&self) -> Result<Option<u64>, u32> {
-        if self.well_formed() {
-            Ok(self.deadline())
-        } else {
-            Err(2)
+    /// Request 3/12: the milliseconds from a keyboard stamp to the next deadline,
+    /// positive still to wait, 0 due now, negative overdue; none if there is no
+    /// deadline. Refusals 2, 4, 5 in this order.
+    pub fn distance(&self, stamp: u64) -> Result<Option<i64>, u32> {
+        if !self.well_formed() {
+            return Err(2);
         }
+        if stamp > LARGEST_STAMP {
+            return Err(4);
+        }
+        if stamp < self.last {
+            return Err(5);
+        }
+        // Both are far below the largest i64: no wait is above 100 largest stamps.
+        Ok(self.deadline().map(|deadline| deadline as i64 - stamp as i64))
     }
 
     /// The deadline of a well-formed state.
@@ -311,7 +319,8 @@ fn parse(kind: u8, key: u8) -> Option<Input> {
     }
 }
 
-fn thumb(key: u8) -> Option<Thumb> {
+/// 0 left, 1 right.
+pub fn thumb(key: u8) -> Option<Thumb> {
     match key {
         0 => Some(Thumb::Left),
         1 => Some(Thumb::Right),

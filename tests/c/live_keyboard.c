@@ -1,0 +1,369 @@
+/*
+ * Drives a live keyboard through include/trabeculon.h as a C host would: document
+ * 01's P1, P4 and P9 event by event, with a screen on which a backspace takes the
+ * last sign back, and the distance to the deadline after each event. Then every
+ * refusal. Checks every number of every answer. Prints what was sent, a backspace
+ * as <-, and the screen after each event, and one line per check; exits 1 if one
+ * failed.
+ */
+#include "trabeculon.h"
+
+#include <inttypes.h>
+#include <stdio.h>
+#include <string.h>
+
+#define LARGEST UINT64_C(1000000000000)
+#define MOST_SIGNS 16
+
+/* Words: ka (key 21) and ga (key 21 with the right thumb), the right mark. */
+#define KA 0x304B
+#define GA 0x304C
+#define RIGHT_MARK 2
+/* Stands among the sent signs for a backspace; no word has this value. */
+#define BACKSPACE 0xFFFF
+/* Stands for the distance of a machine that has no deadline. */
+#define NO_DEADLINE INT64_MIN
+
+enum { CHARACTER_DOWN = 1, CHARACTER_UP, THUMB_DOWN, THUMB_UP, FUNCTION, TICK };
+
+_Static_assert(sizeof(trabeculon_machine) == 40, "a machine has no padding");
+_Static_assert(sizeof(trabeculon_opened) == 48, "an opened machine has no padding");
+_Static_assert(sizeof(trabeculon_stepped) == 64, "a step has padding at its end only");
+_Static_assert(offsetof(trabeculon_stepped, sent_third) == 58, "none before the end");
+_Static_assert(sizeof(trabeculon_asked) == 16, "a distance has no padding");
+
+static int failures = 0;
+
+static void report(const char *name, const char *what, int ok) {
+    printf("%s: %s, %s\n", ok ? "ok" : "FAILED", name, what);
+    if (!ok) {
+        failures++;
+    }
+}
+
+static int same_machine(trabeculon_machine one, trabeculon_machine other) {
+    return memcmp(&one, &other, sizeof one) == 0;
+}
+
+/* ---- The host's screen ---- */
+
+typedef struct {
+    uint16_t signs[MOST_SIGNS];
+    size_t length;
+} run;
+
+static void add(run *r, uint16_t sign) {
+    if (sign != 0 && r->length < MOST_SIGNS) {
+        r->signs[r->length++] = sign;
+    }
+}
+
+static int same_run(const run *r, const uint16_t *signs) {
+    size_t length = 0;
+    while (signs[length] != 0) {
+        length++;
+    }
+    return r->length == length && memcmp(r->signs, signs, 2 * length) == 0;
+}
+
+/* Marks as <L> and <R>, a backspace as <-, all else in UTF-8; every word of the
+ * layout takes three bytes there. */
+static void print_run(const char *what, const run *r) {
+    printf("%s", what);
+    for (size_t i = 0; i < r->length; i++) {
+        unsigned s = r->signs[i];
+        switch (s) {
+        case 1: printf("<L>"); break;
+        case 2: printf("<R>"); break;
+        case BACKSPACE: printf("<-"); break;
+        default: printf("%c%c%c", 0xE0 | s >> 12, 0x80 | (s >> 6 & 0x3F), 0x80 | (s & 0x3F));
+        }
+    }
+}
+
+/* All that a host has in hand for one keyboard. */
+typedef struct {
+    trabeculon_machine machine;
+    run sent;    /* all that was ever sent, backspaces among it */
+    run screen;
+    run line;    /* what is committed */
+} host;
+
+static void show(host *h, trabeculon_stepped s) {
+    uint16_t signs[3] = {s.sent_first, s.sent_second, s.sent_third};
+    if (s.backspace == 1) {
+        add(&h->sent, BACKSPACE);
+        if (h->screen.length > 0) {
+            h->screen.length--;
+        }
+    }
+    for (int i = 0; i < 3; i++) {
+        add(&h->sent, signs[i]);
+        add(&h->screen, signs[i]);
+    }
+    add(&h->line, s.first);
+    add(&h->line, s.second);
+}
+
+/* ---- 01's keystrokes ---- */
+
+/* An event, and what is right after it. */
+typedef struct {
+    const char *name;
+    uint8_t kind, key;
+    uint64_t stamp;
+    uint32_t items;
+    uint16_t words[2];
+    uint16_t backspace;
+    uint16_t sent[3];
+    trabeculon_machine machine; /* without the settings, and last is the stamp */
+    int64_t distance;           /* asked at the event's stamp */
+} line;
+
+static const line P1[] = {
+    {"P1, 21@0", CHARACTER_DOWN, 21, 0, 0, {0, 0}, 0, {KA, 0, 0},
+     {.state = 2, .key = 21, .m = 0}, 100},
+    {"P1, tick 99", TICK, 0, 99, 0, {0, 0}, 0, {0, 0, 0},
+     {.state = 2, .key = 21, .m = 0}, 1},
+    {"P1, tick 100", TICK, 0, 100, 1, {KA, 0}, 0, {0, 0, 0},
+     {.state = 1}, NO_DEADLINE},
+};
+
+static const line P4[] = {
+    {"P4, 21@0", CHARACTER_DOWN, 21, 0, 0, {0, 0}, 0, {KA, 0, 0},
+     {.state = 2, .key = 21, .m = 0}, 100},
+    {"P4, R@30", THUMB_DOWN, 1, 30, 0, {0, 0}, 0, {0, 0, 0},
+     {.state = 4, .key = 21, .m = 0, .thumb = 1, .o = 30}, 30},
+    {"P4, 21 up@60", CHARACTER_UP, 21, 60, 1, {GA, 0}, 1, {GA, 0, 0},
+     {.state = 1}, NO_DEADLINE},
+};
+
+static const line P9[] = {
+    {"P9, R@0", THUMB_DOWN, 1, 0, 0, {0, 0}, 0, {0, 0, 0},
+     {.state = 3, .thumb = 1, .o = 0}, 100},
+    {"P9, 21@40", CHARACTER_DOWN, 21, 40, 0, {0, 0}, 0, {GA, 0, 0},
+     {.state = 5, .key = 21, .m = 40, .thumb = 1, .o = 0}, 40},
+    {"P9, R up@60", THUMB_UP, 1, 60, 0, {0, 0}, 0, {0, 0, 0},
+     {.state = 6, .key = 21, .m = 40, .thumb = 1, .o = 0, .r = 60}, 20},
+    {"P9, tick 79", TICK, 0, 79, 0, {0, 0}, 0, {0, 0, 0},
+     {.state = 6, .key = 21, .m = 40, .thumb = 1, .o = 0, .r = 60}, 1},
+    {"P9, tick 80", TICK, 0, 80, 2, {RIGHT_MARK, KA}, 1, {RIGHT_MARK, KA, 0},
+     {.state = 1}, NO_DEADLINE},
+};
+
+static trabeculon_machine with_settings(trabeculon_machine m, uint8_t solo) {
+    m.t = 100;
+    m.j = 50;
+    m.l = 50;
+    m.solo = solo;
+    return m;
+}
+
+static trabeculon_machine fresh(uint8_t solo) {
+    return trabeculon_open(100, 50, 50, solo).machine;
+}
+
+static void check_distance(const char *name, trabeculon_machine machine, uint64_t stamp,
+                           int64_t want) {
+    trabeculon_asked got = trabeculon_distance(machine, stamp);
+    if (want == NO_DEADLINE) {
+        report(name, "no deadline", got.number == 0 && got.deadline == 0 && got.milliseconds == 0);
+    } else {
+        report(name, "distance",
+               got.number == 0 && got.deadline == 1 && got.milliseconds == want);
+    }
+}
+
+static void check_line(host *h, const line *want, uint8_t solo) {
+    trabeculon_machine after = with_settings(want->machine, solo);
+    after.last = want->stamp;
+
+    trabeculon_stepped got = trabeculon_step(h->machine, want->kind, want->key, want->stamp);
+    h->machine = got.machine;
+    show(h, got);
+    trabeculon_asked asked = trabeculon_distance(h->machine, want->stamp);
+
+    printf("%-14s", want->name);
+    print_run(" sent: ", &h->sent);
+    print_run("  screen: ", &h->screen);
+    if (asked.deadline == 1) {
+        printf("  deadline: %+" PRId64 " ms", asked.milliseconds);
+    }
+    printf("\n");
+    report(want->name, "number", got.number == 0);
+    report(want->name, "items",
+           got.items == want->items && got.first == want->words[0]
+               && got.second == want->words[1]);
+    report(want->name, "sendings",
+           got.backspace == want->backspace && got.sent_first == want->sent[0]
+               && got.sent_second == want->sent[1] && got.sent_third == want->sent[2]);
+    report(want->name, "machine", same_machine(got.machine, after));
+    check_distance(want->name, h->machine, want->stamp, want->distance);
+}
+
+/* One of 01's runs; sent, screen and committed line end with 0. */
+static void check_run(const char *name, const line *lines, size_t count, uint8_t solo,
+                      const uint16_t *sent, const uint16_t *screen) {
+    host h = {.machine = fresh(solo)};
+    for (size_t i = 0; i < count; i++) {
+        check_line(&h, &lines[i], solo);
+    }
+    report(name, "all that was sent", same_run(&h.sent, sent));
+    report(name, "the screen in the end", same_run(&h.screen, screen));
+    report(name, "the committed line", same_run(&h.line, screen));
+}
+
+static void check_runs(void) {
+    check_run("P1", P1, sizeof P1 / sizeof P1[0], 0, (uint16_t[]){KA, 0}, (uint16_t[]){KA, 0});
+    check_run("P4", P4, sizeof P4 / sizeof P4[0], 0, (uint16_t[]){KA, BACKSPACE, GA, 0},
+              (uint16_t[]){GA, 0});
+    check_run("P9", P9, sizeof P9 / sizeof P9[0], 1,
+              (uint16_t[]){GA, BACKSPACE, RIGHT_MARK, KA, 0}, (uint16_t[]){RIGHT_MARK, KA, 0});
+}
+
+/* ---- Opening ---- */
+
+static void check_open(const char *name, uint16_t t, uint8_t j, uint8_t l, uint8_t solo,
+                       uint64_t number) {
+    trabeculon_machine opened = {.t = t, .j = j, .l = l, .solo = solo, .state = 1};
+    trabeculon_machine none = {0};
+    trabeculon_opened got = trabeculon_open(t, j, l, solo);
+    report(name, "number", got.number == number);
+    report(name, "machine", same_machine(got.machine, number == 0 ? opened : none));
+}
+
+static void check_opening(void) {
+    check_open("open, the smallest", 50, 1, 1, 0, 0);
+    check_open("open, the largest", 200, 99, 99, 1, 0);
+    check_open("open, T 49", 49, 50, 50, 0, 1);
+    check_open("open, T 201", 201, 50, 50, 0, 1);
+    check_open("open, T 256 + 100", 356, 50, 50, 0, 1);
+    check_open("open, J 0", 100, 0, 50, 0, 1);
+    check_open("open, J 100", 100, 100, 50, 0, 1);
+    check_open("open, L 0", 100, 50, 0, 0, 1);
+    check_open("open, L 100", 100, 50, 100, 0, 1);
+    check_open("open, solo 2", 100, 50, 50, 2, 1);
+}
+
+/* ---- Refusals ---- */
+
+/* A refused step commits and sends nothing and hands the machine back as given. */
+static void check_refused(const char *name, trabeculon_machine machine, uint8_t kind,
+                          uint8_t key, uint64_t stamp, uint32_t number) {
+    trabeculon_stepped got = trabeculon_step(machine, kind, key, stamp);
+    report(name, "number", got.number == number);
+    report(name, "nothing committed or sent",
+           got.items == 0 && got.first == 0 && got.second == 0 && got.backspace == 0
+               && got.sent_first == 0 && got.sent_second == 0 && got.sent_third == 0);
+    report(name, "machine as given", same_machine(got.machine, machine));
+}
+
+static void check_not_asked(const char *name, trabeculon_machine machine, uint64_t stamp,
+                            uint32_t number) {
+    trabeculon_asked got = trabeculon_distance(machine, stamp);
+    report(name, "distance refused",
+           got.number == number && got.deadline == 0 && got.milliseconds == 0);
+}
+
+/* Refused 2 before anything else, whatever the event and the stamp are. */
+static void check_no_machine(const char *name, trabeculon_machine machine) {
+    check_refused(name, machine, TICK, 0, machine.last, 2);
+    check_refused(name, machine, 9, 99, UINT64_MAX, 2);
+    check_not_asked(name, machine, machine.last, 2);
+    check_not_asked(name, machine, UINT64_MAX, 2);
+    check_not_asked(name, machine, 0, 2);
+}
+
+/* Key 21 pressed at 1000, nothing since. */
+static const trabeculon_machine WAITING = {
+    .last = 1000, .m = 1000, .t = 100, .j = 50, .l = 50, .solo = 1, .state = 2, .key = 21,
+};
+
+static void check_states(void) {
+    trabeculon_machine m = WAITING;
+    check_no_machine("what a refused opening gives", trabeculon_open(49, 50, 50, 0).machine);
+    m.state = 0;
+    check_no_machine("state 0", m);
+    m.state = 7;
+    check_no_machine("state 7", m);
+    m = WAITING;
+    m.thumb = 1;
+    check_no_machine("a thumb in state 2", m);
+    m = WAITING;
+    m.r = UINT64_MAX;
+    check_no_machine("a release in state 2", m);
+    m = WAITING;
+    m.state = 4;
+    m.o = 1000;
+    m.thumb = 2;
+    check_no_machine("thumb 2", m);
+    m = WAITING;
+    m.key = 31;
+    check_no_machine("key 31", m);
+    m = WAITING;
+    m.m = 1001;
+    check_no_machine("pressed after the last stamp", m);
+    m = WAITING;
+    m.last = LARGEST + 1;
+    check_no_machine("last stamp too large", m);
+    m = WAITING;
+    m.solo = 2;
+    check_no_machine("solo 2", m);
+    m = WAITING;
+    m.state = 5;
+    m.m = 900;
+    m.o = 901;
+    check_no_machine("out of order", m);
+}
+
+static void check_accepted(const char *name, uint8_t kind, uint8_t key, uint64_t stamp) {
+    trabeculon_stepped got = trabeculon_step(WAITING, kind, key, stamp);
+    report(name, "accepted", got.number == 0 && got.machine.last == stamp);
+}
+
+static void check_events(void) {
+    check_accepted("key 30, equal stamp", CHARACTER_DOWN, 30, 1000);
+    check_accepted("largest stamp", TICK, 0, LARGEST);
+    check_accepted("function", FUNCTION, 0, 1000);
+    check_refused("kind 0", WAITING, 0, 0, 1000, 3);
+    check_refused("kind 7", WAITING, 7, 0, 1000, 3);
+    check_refused("key 31", WAITING, CHARACTER_DOWN, 31, 1000, 3);
+    check_refused("thumb 2", WAITING, THUMB_DOWN, 2, 1000, 3);
+    check_refused("function with key 1", WAITING, FUNCTION, 1, 1000, 3);
+    check_refused("tick with key 1", WAITING, TICK, 1, 1000, 3);
+    check_refused("stamp too large", WAITING, TICK, 0, LARGEST + 1, 4);
+    check_refused("stamp one too early", WAITING, TICK, 0, 999, 5);
+    check_refused("key 31 and stamp too early", WAITING, CHARACTER_DOWN, 31, 999, 3);
+    check_refused("key 31 and stamp too large", WAITING, CHARACTER_DOWN, 31, LARGEST + 1, 3);
+}
+
+/* No stamp is both above the largest and before the last one of a well-formed
+ * machine; so 4 and 5 are tried one by one, also with the largest last stamp. */
+static void check_distances(void) {
+    trabeculon_machine end = WAITING;
+    end.last = LARGEST;
+    check_distance("still to wait", WAITING, 1000, 100);
+    check_distance("one millisecond to wait", WAITING, 1099, 1);
+    check_distance("due now", WAITING, 1100, 0);
+    check_distance("one millisecond overdue", WAITING, 1101, -1);
+    check_distance("long overdue", WAITING, LARGEST, INT64_C(1100) - (int64_t)LARGEST);
+    check_distance("fresh, at 0", fresh(1), 0, NO_DEADLINE);
+    check_distance("fresh, at the largest", fresh(1), LARGEST, NO_DEADLINE);
+    check_not_asked("one above the largest", WAITING, LARGEST + 1, 4);
+    check_not_asked("far above the largest", WAITING, UINT64_MAX, 4);
+    check_not_asked("one before the last", WAITING, 999, 5);
+    check_not_asked("long before the last", WAITING, 0, 5);
+    check_distance("the largest last stamp", end, LARGEST, INT64_C(1100) - (int64_t)LARGEST);
+    check_not_asked("the largest last stamp, one more", end, LARGEST + 1, 4);
+    check_not_asked("the largest last stamp, one less", end, LARGEST - 1, 5);
+}
+
+int main(void) {
+    check_runs();
+    check_opening();
+    check_states();
+    check_events();
+    check_distances();
+    printf("%d failed\n", failures);
+    return failures == 0 ? 0 : 1;
+}

@@ -1,0 +1,341 @@
+//! Compares the proved library's face for a live keyboard with the model of the
+//! papers, every number of every answer: opening, single steps and distances from
+//! any state that a host can hand over, and long walks from opened machines.
+//!
+//!   compare_step [COUNT [SEED]] [--wrong-rule [NAME]]
+//!
+//! Opening: every T, and settings on and beside every boundary. Steps and distances:
+//! a fixed set that tries every place of a state's numbers, then COUNT random
+//! states, each with a few events and stamps. Walks: for every twenty states one.
+//! Exit 0: all equal. Exit 1: a mismatch, printed. Exit 2: wrong arguments.
+
+use std::fmt::{Debug, Formatter};
+use std::mem::size_of;
+use std::process::ExitCode;
+
+use trabeculon_model::arguments::{self, named};
+use trabeculon_model::generate::{boundary_settings, next_event, right_settings, wrong_settings};
+use trabeculon_model::live::{
+    distance, open, step_numbers, Asked, Flat, Opened, Stepped, Wrong, LIVE_SLIPS,
+};
+use trabeculon_model::log::{word, RawSettings};
+use trabeculon_model::model::{shown, Event, KEYS, LARGEST_STAMP, SLIPS};
+use trabeculon_model::random::Random;
+use trabeculon_model::states::{every_state, random_event, random_stamp, random_state};
+use trabeculon_model::tally::Tally;
+
+extern "C" {
+    fn trabeculon_open(t: u16, j: u8, l: u8, solo: u8) -> Opened;
+    fn trabeculon_step(machine: Flat, kind: u8, key: u8, stamp: u64) -> Stepped;
+    fn trabeculon_distance(machine: Flat, stamp: u64) -> Asked;
+}
+
+const _: () = assert!(size_of::<Flat>() == 40 && size_of::<Opened>() == 48);
+const _: () = assert!(size_of::<Stepped>() == 64 && size_of::<Asked>() == 16);
+
+/// The proved library, in safe clothes: numbers go in and out, and all of them may
+/// be anything.
+fn library_open((t, j, l, solo): RawSettings) -> Opened {
+    unsafe { trabeculon_open(t, j, l, solo) }
+}
+
+fn library_step(flat: &Flat, event: Event) -> Stepped {
+    unsafe { trabeculon_step(*flat, event.kind, event.key, event.stamp) }
+}
+
+fn library_distance(flat: &Flat, stamp: u64) -> Asked {
+    unsafe { trabeculon_distance(*flat, stamp) }
+}
+
+const DEFAULT_COUNT: u64 = 200_000;
+const DEFAULT_SEED: u64 = 20_010_401;
+/// So many events and so many distances for each random state.
+const TRIES: usize = 8;
+/// For so many random states one walk.
+const STATES_FOR_A_WALK: u64 = 20;
+/// The numbers of a step, and those of a distance.
+const STEP_NUMBERS: [u64; 5] = [0, 2, 3, 4, 5];
+const DISTANCE_NUMBERS: [u64; 4] = [0, 2, 4, 5];
+/// The same in a walk: not 2, since the machine is always one handed back.
+const WALK_STEP_NUMBERS: [u64; 4] = [0, 3, 4, 5];
+const WALK_DISTANCE_NUMBERS: [u64; 3] = [0, 4, 5];
+
+type Arguments = arguments::Arguments<Wrong>;
+
+fn main() -> ExitCode {
+    let words: Vec<String> = std::env::args().skip(1).collect();
+    let Some(arguments) = read_arguments(&words) else {
+        let machine = SLIPS.map(|(name, _)| name).join(", ");
+        let live = LIVE_SLIPS.map(|(name, _)| name).join(", ");
+        eprintln!("usage: compare_step [COUNT [SEED]] [--wrong-rule [NAME]]");
+        eprintln!("names: {machine},\n{live}");
+        return ExitCode::from(2);
+    };
+    match compare_all(&arguments) {
+        Ok(()) => ExitCode::SUCCESS,
+        Err(message) => {
+            println!("{message}");
+            ExitCode::from(1)
+        }
+    }
+}
+
+fn read_arguments(words: &[String]) -> Option<Arguments> {
+    let usual = Arguments { count: DEFAULT_COUNT, seed: DEFAULT_SEED, wrong: Wrong::default() };
+    let first = Wrong { machine: None, live: Some(LIVE_SLIPS[0].1) };
+    Arguments::read(words, usual, first, wrong_named)
+}
+
+fn wrong_named(name: &str) -> Option<Wrong> {
+    let wrong = Wrong { machine: named(&SLIPS, name), live: named(&LIVE_SLIPS, name) };
+    (wrong.machine.is_some() || wrong.live.is_some()).then_some(wrong)
+}
+
+fn compare_all(arguments: &Arguments) -> Result<(), String> {
+    compare_openings(arguments)?;
+    compare_fixed(arguments)?;
+    compare_random(arguments)?;
+    compare_walks(arguments)
+}
+
+// ---- One answer ----
+
+/// What the two answered, where it is not the same.
+fn differ<T: Debug>(what: &str, library: T, model: T) -> String {
+    format!("the answers differ\n{what}\nlibrary {library:?}\nmodel   {model:?}")
+}
+
+fn compare_open(raw: RawSettings) -> Result<Opened, String> {
+    let (library, model) = (library_open(raw), open(raw));
+    if library != model {
+        return Err(differ(&format!("open, T J L solo {raw:?}"), library, model));
+    }
+    Ok(library)
+}
+
+/// The names of the states; 0 is any state that is refused 2.
+const STATES: [&str; 7] = ["refused-2", "S1", "S2", "S3", "S4", "S5", "S6"];
+/// The kinds of an answered distance.
+const WAITS: [&str; 4] = ["overdue", "due-now", "to-wait", "no-deadline"];
+
+/// All that was compared, and how often each answer came up.
+#[derive(Default)]
+struct Compared {
+    steps: Tally,
+    before: Tally<&'static str>,
+    /// After the accepted steps.
+    after: Tally<&'static str>,
+    distances: Tally,
+    waits: Tally<&'static str>,
+}
+
+impl Compared {
+    fn step(&mut self, wrong: Wrong, flat: &Flat, event: Event) -> Result<Stepped, String> {
+        let library = library_step(flat, event);
+        let model = step_numbers(wrong, flat, event);
+        if library != model {
+            return Err(differ(&format!("step {event:?} of {flat:?}"), library, model));
+        }
+        self.steps.add(model.number.into());
+        self.before.add(STATES[if model.number == 2 { 0 } else { usize::from(flat.state) }]);
+        if model.number == 0 {
+            self.after.add(STATES[usize::from(model.machine.state)]);
+        }
+        Ok(library)
+    }
+
+    fn distance(&mut self, wrong: Wrong, flat: &Flat, stamp: u64) -> Result<Asked, String> {
+        let library = library_distance(flat, stamp);
+        let model = distance(wrong, flat, stamp);
+        if library != model {
+            return Err(differ(&format!("distance from {stamp} of {flat:?}"), library, model));
+        }
+        self.distances.add(model.number.into());
+        if model.number == 0 {
+            let sign = (model.milliseconds.signum() + 1) as usize;
+            self.waits.add(WAITS[if model.deadline == 0 { 3 } else { sign }]);
+        }
+        Ok(library)
+    }
+
+    fn print(&self, what: &str) {
+        self.steps.print(&format!("steps {what}"));
+        println!("  states before{}", self.before.times());
+        println!("  states after the accepted ones{}", self.after.times());
+        self.distances.print(&format!("distances {what}"));
+        println!("  answered{}", self.waits.times());
+    }
+
+    /// An error if a number, a state or a kind of distance never came up.
+    fn complete(&self, steps: &[u64], distances: &[u64], count: u64) -> Result<(), String> {
+        let complete = || {
+            self.steps.complete(steps, count)?;
+            self.distances.complete(distances, count)?;
+            self.before.complete(&STATES[1..], count)?;
+            self.after.complete(&STATES[1..], count)?;
+            self.waits.complete(&WAITS, count)
+        };
+        complete().map_err(|what: String| format!("of steps and distances, {what}"))
+    }
+}
+
+// ---- Opening ----
+
+fn compare_openings(arguments: &Arguments) -> Result<(), String> {
+    let mut random = Random::new(arguments.seed);
+    let mut tally = Tally::default();
+    let every_t = (0..=u16::MAX).map(|t| (t, 50, 50, 1));
+    let every_byte = (0..=255).flat_map(|byte| {
+        [(100, byte, 50, 0), (100, 50, byte, 0), (100, 50, 50, byte), (byte.into(), byte, byte, 1)]
+    });
+    let random_ones = (0..10_000).map(|index| match index % 2 {
+        0 => right_settings(&mut random),
+        _ => wrong_settings(&mut random),
+    });
+    for raw in every_t.chain(every_byte).chain(boundary_settings()).chain(random_ones) {
+        tally.add(compare_open(raw)?.number);
+    }
+    tally.print("openings");
+    Ok(())
+}
+
+// ---- Single steps and distances ----
+
+fn compare_fixed(arguments: &Arguments) -> Result<(), String> {
+    let wrong = arguments.wrong;
+    let mut compared = Compared::default();
+    every_state(|flat, event| {
+        compared.step(wrong, flat, event)?;
+        compared.distance(wrong, flat, event.stamp).map(drop)
+    })?;
+    compared.print("with every place of a state tried");
+    Ok(())
+}
+
+fn compare_random(arguments: &Arguments) -> Result<(), String> {
+    let mut random = Random::new(arguments.seed);
+    let mut compared = Compared::default();
+    for index in 0..arguments.count {
+        let flat = random_state(&mut random);
+        compare_state(&mut random, arguments.wrong, &flat, &mut compared)
+            .map_err(|what| format!("state {index} of seed {}: {what}", arguments.seed))?;
+    }
+    compared.print(&format!("from random states of seed {}", arguments.seed));
+    compared.complete(&STEP_NUMBERS, &DISTANCE_NUMBERS, arguments.count)
+}
+
+/// A few events and a few stamps for one state.
+fn compare_state(
+    random: &mut Random,
+    wrong: Wrong,
+    flat: &Flat,
+    compared: &mut Compared,
+) -> Result<(), String> {
+    for _ in 0..TRIES {
+        compared.step(wrong, flat, random_event(random, flat))?;
+        compared.distance(wrong, flat, random_stamp(random, flat))?;
+    }
+    Ok(())
+}
+
+// ---- Walks ----
+
+fn compare_walks(arguments: &Arguments) -> Result<(), String> {
+    // Another run of numbers than that of the states.
+    let mut random = Random::new(!arguments.seed);
+    let mut compared = Compared::default();
+    let walks = arguments.count / STATES_FOR_A_WALK;
+    for index in 0..walks {
+        compare_walk(&mut random, arguments.wrong, &mut compared)
+            .map_err(|what| format!("walk {index} of seed {}: {what}", arguments.seed))?;
+    }
+    compared.print(&format!("in {walks} walks of seed {}", arguments.seed));
+    compared.complete(&WALK_STEP_NUMBERS, &WALK_DISTANCE_NUMBERS, arguments.count)
+}
+
+/// What a host has in hand: the machine, the committed line and the screen.
+struct Host {
+    machine: Flat,
+    line: Vec<u16>,
+    screen: Vec<u16>,
+}
+
+fn compare_walk(random: &mut Random, wrong: Wrong, compared: &mut Compared) -> Result<(), String> {
+    let raw = right_settings(random);
+    let opened = compare_open(raw)?;
+    let mut host = Host { machine: opened.machine, line: vec![], screen: vec![] };
+    let keys = [0; 3].map(|_| random.below(KEYS.into()) as u8);
+    let count = random.pick(&[10, 30, 30, 60, 200]);
+    let mut events = vec![];
+    for _ in 0..random.place(count) {
+        let machine = host.machine.machine(Wrong::default());
+        let machine = machine.map_err(|_| format!("no machine was handed back: {host:?}"))?;
+        let event = match thumb_release(random, &host.machine) {
+            Some(event) => event,
+            None => next_event(random, &machine, &keys, true),
+        };
+        events.push((event.kind, event.key, event.stamp));
+        walk_on(random, wrong, &mut host, event, compared).map_err(|what| {
+            format!("{what}\nT J L solo {raw:?}, kinds, keys and stamps {events:?}")
+        })?;
+    }
+    Ok(())
+}
+
+/// Now and then in S5 its thumb goes up soon, which is what leads to S6.
+fn thumb_release(random: &mut Random, flat: &Flat) -> Option<Event> {
+    let stamp = flat.last + random.below(20);
+    let soon = flat.state == 5 && stamp <= LARGEST_STAMP && random.once_in(4);
+    soon.then_some(Event { kind: 4, key: flat.thumb, stamp })
+}
+
+/// One event of a walk: the step, the screen, and a few distances after it.
+fn walk_on(
+    random: &mut Random,
+    wrong: Wrong,
+    host: &mut Host,
+    event: Event,
+    compared: &mut Compared,
+) -> Result<(), String> {
+    let stepped = compared.step(wrong, &host.machine, event)?;
+    host.take(&stepped)?;
+    let Flat { last, .. } = host.machine;
+    let now = compared.distance(wrong, &host.machine, last)?;
+    let due = last.saturating_add_signed(now.milliseconds);
+    let far = last.saturating_add(random.below(30_000));
+    let out = random.pick(&[last.wrapping_sub(1), LARGEST_STAMP, LARGEST_STAMP + 1, u64::MAX]);
+    for stamp in [due.saturating_sub(1), due, due.saturating_add(1), far, out] {
+        compared.distance(wrong, &host.machine, stamp)?;
+    }
+    Ok(())
+}
+
+impl Host {
+    /// Does what a step asks for; the screen is then the committed line and the
+    /// character that waits.
+    fn take(&mut self, stepped: &Stepped) -> Result<(), String> {
+        if stepped.backspace == 1 {
+            self.screen.pop();
+            if !self.screen.starts_with(&self.line) {
+                return Err(format!("a backspace takes a committed sign: {stepped:?}"));
+            }
+        }
+        let sent = [stepped.sent_first, stepped.sent_second, stepped.sent_third];
+        self.screen.extend(sent.iter().filter(|sign| **sign != 0));
+        self.line.extend([stepped.first, stepped.second].iter().filter(|word| **word != 0));
+        self.machine = stepped.machine;
+        let waiting = self.machine.machine(Wrong::default()).ok().and_then(|m| shown(&m.resting));
+        if self.screen == [&self.line[..], waiting.map(word).as_slice()].concat() {
+            Ok(())
+        } else {
+            Err(format!("the screen is not the line and what waits: {stepped:?}\n{self:?}"))
+        }
+    }
+}
+
+impl Debug for Host {
+    fn fmt(&self, f: &mut Formatter) -> std::fmt::Result {
+        let Host { machine, line, screen } = self;
+        write!(f, "line {line:x?}\nscreen {screen:x?}\n{machine:?}")
+    }
+}

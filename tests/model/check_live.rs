@@ -1,0 +1,216 @@
+//! Request 3/12 tried on the model: the distance, its refusals and that it says when
+//! a tick commits; the machine as numbers, and the states that the tests make.
+
+use trabeculon_model::live::{distance, open, step_numbers, Asked, Flat, Opened, Stepped, Wrong};
+use trabeculon_model::model::{step, Event, Machine, Resting, Settings, Thumb, LARGEST_STAMP};
+use trabeculon_model::random::Random;
+use trabeculon_model::states::{broken_state, nameless_state, random_stamp, right_state};
+
+use crate::{expect, settings};
+
+pub fn check_all() -> Result<(), String> {
+    check_distances()?;
+    check_largest()?;
+    check_refusals()?;
+    check_ticks()?;
+    check_numbers()?;
+    check_states()
+}
+
+// ---- The distance ----
+
+fn at(settings: Settings, last: u64, resting: Resting) -> Machine {
+    Machine { settings, resting, last }
+}
+
+/// Every state, at T=100, J=L=50: before its deadline, at it and behind it.
+fn check_distances() -> Result<(), String> {
+    let usual = settings(100, 50, 50, 0)?;
+    let solo = settings(100, 50, 50, 1)?;
+    let (key, thumb) = (21, Thumb::Right);
+    let states = [
+        (at(usual, 10, Resting::S2 { key, m: 10 }), 110),
+        (at(solo, 10, Resting::S3 { thumb, o: 10 }), 110),
+        (at(usual, 30, Resting::S4 { key, m: 0, thumb, o: 30 }), 60),
+        (at(usual, 30, Resting::S4 { key, m: 30, thumb, o: 30 }), 30),
+        (at(usual, 30, Resting::S5 { thumb, o: 0, key, m: 30 }), 60),
+        (at(usual, 1_000, Resting::S5 { thumb, o: 0, key, m: 1_000 }), 1_100),
+        (at(usual, 60, Resting::S6 { thumb, o: 0, key, m: 40, r: 60 }), 80),
+        // A state may stand behind its deadline.
+        (at(usual, 5_000, Resting::S2 { key, m: 10 }), 110),
+    ];
+    for (machine, deadline) in states {
+        for stamp in [machine.last, 109, 110, 111, 1_099, 1_100, 1_101, 40_000, LARGEST_STAMP] {
+            let right =
+                if stamp < machine.last { Err(5) } else { Ok(Some(deadline - stamp as i64)) };
+            expect(&format!("{machine:?} at {stamp}"), machine.distance(stamp), right)?;
+        }
+    }
+    let none = [
+        at(usual, 10, Resting::S1),
+        at(solo, 10, Resting::S1),
+        at(usual, 10, Resting::S3 { thumb, o: 10 }),
+    ];
+    for machine in none {
+        for stamp in [10, 11, 10_000, LARGEST_STAMP] {
+            expect(&format!("{machine:?} at {stamp}"), machine.distance(stamp), Ok(None))?;
+        }
+    }
+    Ok(())
+}
+
+/// At the largest stamp, and the farthest that a deadline can be away.
+fn check_largest() -> Result<(), String> {
+    let (key, thumb, o) = (21, Thumb::Left, LARGEST_STAMP);
+    let usual = settings(100, 50, 50, 0)?;
+    let end = at(usual, LARGEST_STAMP, Resting::S2 { key, m: LARGEST_STAMP });
+    expect("pressed at the largest", end.distance(LARGEST_STAMP), Ok(Some(100)))?;
+    expect("one more", end.distance(LARGEST_STAMP + 1), Err(4))?;
+    expect("one less", end.distance(LARGEST_STAMP - 1), Err(5))?;
+    let slow = at(settings(200, 99, 1, 0)?, LARGEST_STAMP, Resting::S4 { key, m: 0, thumb, o });
+    expect("the farthest", slow.distance(LARGEST_STAMP), Ok(Some(99 * LARGEST_STAMP as i64)))?;
+    let old = at(usual, 0, Resting::S2 { key, m: 0 });
+    let overdue = 100 - LARGEST_STAMP as i64;
+    expect("the most overdue", old.distance(LARGEST_STAMP), Ok(Some(overdue)))
+}
+
+/// 2 before 4 and 5. 4 and 5 never hold together, as no last stamp of a well-formed
+/// state is above the largest.
+fn check_refusals() -> Result<(), String> {
+    let usual = settings(100, 50, 50, 0)?;
+    let good = at(usual, 50, Resting::S2 { key: 30, m: 50 });
+    let bad = at(usual, 50, Resting::S2 { key: 31, m: 50 });
+    let beyond = at(usual, LARGEST_STAMP + 2, Resting::S1);
+    let tries = [
+        (good, 50, Ok(Some(100))),
+        (good, 49, Err(5)),
+        (good, 0, Err(5)),
+        (good, LARGEST_STAMP + 1, Err(4)),
+        (good, u64::MAX, Err(4)),
+        (bad, 50, Err(2)),
+        (bad, 49, Err(2)),
+        (bad, LARGEST_STAMP + 1, Err(2)),
+        (beyond, LARGEST_STAMP + 1, Err(2)),
+        (beyond, u64::MAX, Err(2)),
+    ];
+    for (machine, stamp, right) in tries {
+        expect(&format!("{machine:?} at {stamp}"), machine.distance(stamp), right)?;
+    }
+    println!("distance: to wait, due, overdue, none; 2 before 4 and 5; the largest stamp");
+    Ok(())
+}
+
+const STATES: u64 = 50_000;
+
+/// A tick leaves a state as it was as long as the distance is positive, and ends it
+/// from 0 on; with no deadline it never does. A distance shrinks as time goes on.
+fn check_ticks() -> Result<(), String> {
+    let mut random = Random::new(5);
+    for _ in 0..STATES {
+        let flat = right_state(&mut random);
+        let machine = flat.machine(Wrong::default()).map_err(|n| format!("{flat:?}: {n}"))?;
+        let stamp = random_stamp(&mut random, &flat);
+        let asked = machine.distance(stamp);
+        let stepped = step(&machine, Event { kind: 6, key: 0, stamp });
+        let right = match asked {
+            Err(number) => Err(number),
+            Ok(Some(i64::MIN..=0)) => Ok(Resting::S1),
+            Ok(_) => Ok(machine.resting),
+        };
+        let what = format!("a tick at {stamp} in {machine:?}");
+        expect(&what, stepped.map(|step| step.machine.resting), right)?;
+        let later = machine.distance(stamp.saturating_add(1));
+        if let (Ok(now), Ok(later)) = (asked, later) {
+            expect("one ms later", later, now.map(|now| now - 1))?;
+        }
+    }
+    println!("distance: {STATES} random states, a tick ends each when it is due and not before");
+    Ok(())
+}
+
+// ---- The machine as numbers ----
+
+const RIGHT: Wrong = Wrong { machine: None, live: None };
+
+fn check_numbers() -> Result<(), String> {
+    let fresh = Flat { t: 100, j: 50, l: 50, solo: 1, state: 1, ..Flat::default() };
+    expect("open", open((100, 50, 50, 1)), Opened { machine: fresh, number: 0 })?;
+    expect("not open", open((100, 50, 50, 2)), Opened { machine: Flat::default(), number: 1 })?;
+    check_p9(fresh)?;
+    let refused = |flat: Flat, event: (u8, u8, u64), number: u32| {
+        let (kind, key, stamp) = event;
+        let got = step_numbers(RIGHT, &flat, Event { kind, key, stamp });
+        let right = Stepped { machine: flat, number, ..Stepped::default() };
+        expect(&format!("{event:?} in {flat:?}"), got, right)
+    };
+    let waiting = Flat { last: 50, state: 2, key: 30, m: 50, ..fresh };
+    refused(waiting, (1, 31, 49), 3)?;
+    refused(waiting, (1, 21, LARGEST_STAMP + 1), 4)?;
+    refused(waiting, (6, 0, 49), 5)?;
+    for nameless in nameless(waiting) {
+        refused(nameless, (9, 99, u64::MAX), 2)?;
+        let right = Asked { number: 2, ..Asked::default() };
+        expect("nameless, the distance", distance(RIGHT, &nameless, u64::MAX), right)?;
+    }
+    println!("numbers: P9 step by step, refusals hand the numbers back as given");
+    Ok(())
+}
+
+/// S2 with one number that is too much, and numbers that are no state.
+fn nameless(waiting: Flat) -> [Flat; 8] {
+    [
+        Flat::default(),
+        Flat { state: 7, ..waiting },
+        Flat { state: 255, ..waiting },
+        Flat { o: 1, ..waiting },
+        Flat { r: u64::MAX, ..waiting },
+        Flat { thumb: 1, ..waiting },
+        Flat { state: 4, o: 50, thumb: 2, ..waiting },
+        Flat { state: 5, o: 50, r: 50, ..waiting },
+    ]
+}
+
+/// 01's P9, every number of every answer.
+fn check_p9(fresh: Flat) -> Result<(), String> {
+    let (ka, ga, mark) = (0x304b, 0x304c, 2);
+    let none = Stepped::default();
+    let s3 = Flat { state: 3, thumb: 1, ..fresh };
+    let s5 = Flat { state: 5, key: 21, m: 40, last: 40, ..s3 };
+    let s6 = Flat { state: 6, r: 60, last: 60, ..s5 };
+    let end = Stepped { items: 2, first: mark, second: ka, backspace: 1, ..none };
+    let end = Stepped { sent_first: mark, sent_second: ka, ..end };
+    let asked = |milliseconds| Asked { number: 0, deadline: 1, milliseconds };
+    let lines = [
+        ((3, 1, 0), Stepped { machine: s3, ..none }, asked(100)),
+        ((1, 21, 40), Stepped { machine: s5, sent_first: ga, ..none }, asked(40)),
+        ((4, 1, 60), Stepped { machine: s6, ..none }, asked(20)),
+        ((6, 0, 79), Stepped { machine: Flat { last: 79, ..s6 }, ..none }, asked(1)),
+        ((6, 0, 80), Stepped { machine: Flat { last: 80, ..fresh }, ..end }, Asked::default()),
+    ];
+    let mut flat = fresh;
+    for ((kind, key, stamp), right, wait) in lines {
+        let got = step_numbers(RIGHT, &flat, Event { kind, key, stamp });
+        expect(&format!("P9 at {stamp}"), got, right)?;
+        flat = got.machine;
+        expect(&format!("P9 at {stamp}, the distance"), distance(RIGHT, &flat, stamp), wait)?;
+    }
+    Ok(())
+}
+
+// ---- The states that the tests make ----
+
+/// Right states name well-formed machines and come back from them; broken and
+/// nameless ones are refused 2.
+fn check_states() -> Result<(), String> {
+    let mut random = Random::new(6);
+    for _ in 0..STATES {
+        let flat = right_state(&mut random);
+        let back = flat.machine(RIGHT).map(|machine| Flat::of(flat.raw_settings(), &machine));
+        expect("a right state", back, Ok(flat))?;
+        for flat in [broken_state(&mut random), nameless_state(&mut random)] {
+            expect(&format!("{flat:?}"), flat.machine(RIGHT).err(), Some(2))?;
+        }
+    }
+    println!("states: {STATES} right ones, as many broken and nameless ones are refused 2");
+    Ok(())
+}

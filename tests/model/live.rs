@@ -1,0 +1,272 @@
+//! The C face for a live keyboard: opening, stepping and asking (request 3/12) a
+//! machine that goes through the host's hands as plain numbers. On top of the
+//! model of the machine; the numbers are those that the header names.
+
+use crate::log::{word, RawSettings};
+use crate::model::{
+    sign, step, thumb, Event, Machine, Resting, Sending, Settings, Slip, Thumb, LARGEST_STAMP,
+};
+
+/// A wrong rule put into this face on purpose, to show that a comparison can fail.
+#[derive(Clone, Copy, PartialEq, Eq, Debug)]
+pub enum LiveSlip {
+    /// Overdue is positive.
+    SignTurned,
+    /// The distance is one too many.
+    OffByOne,
+    /// Overdue counts as due now.
+    OverdueAsZero,
+    /// No deadline counts as due now.
+    NoneAsZero,
+    /// A distance from a stamp before the last accepted one is answered.
+    EarlyAnswered,
+    /// A distance refused 4 is refused 5, and the other way round.
+    NumbersExchanged,
+    /// The stamp of a distance is judged before the state.
+    StampFirst,
+    /// Numbers that the state doesn't use may be anything.
+    LeftOverIgnored,
+    /// A refused step hands back no machine.
+    RefusedCleared,
+    /// An empty face is no item.
+    EmptyFaceNoItem,
+}
+
+pub const LIVE_SLIPS: [(&str, LiveSlip); 10] = [
+    ("sign-turned", LiveSlip::SignTurned),
+    ("off-by-one", LiveSlip::OffByOne),
+    ("overdue-as-zero", LiveSlip::OverdueAsZero),
+    ("none-as-zero", LiveSlip::NoneAsZero),
+    ("early-answered", LiveSlip::EarlyAnswered),
+    ("numbers-exchanged", LiveSlip::NumbersExchanged),
+    ("stamp-first", LiveSlip::StampFirst),
+    ("left-over-ignored", LiveSlip::LeftOverIgnored),
+    ("refused-cleared", LiveSlip::RefusedCleared),
+    ("empty-face-no-item", LiveSlip::EmptyFaceNoItem),
+];
+
+/// A wrong rule of the machine or of this face, if any.
+#[derive(Clone, Copy, Default)]
+pub struct Wrong {
+    pub machine: Option<Slip>,
+    pub live: Option<LiveSlip>,
+}
+
+impl Wrong {
+    fn live(&self, slip: LiveSlip) -> bool {
+        self.live == Some(slip)
+    }
+}
+
+// ---- A machine as numbers ----
+
+/// The numbers of a machine, or of none. The fields are those of the C face.
+#[repr(C)]
+#[derive(Clone, Copy, PartialEq, Eq, Default, Debug)]
+pub struct Flat {
+    pub last: u64,
+    pub m: u64,
+    pub o: u64,
+    pub r: u64,
+    pub t: u16,
+    pub j: u8,
+    pub l: u8,
+    pub solo: u8,
+    pub state: u8,
+    pub key: u8,
+    pub thumb: u8,
+}
+
+impl Flat {
+    /// The numbers of a machine that has these settings.
+    pub fn of((t, j, l, solo): RawSettings, machine: &Machine) -> Flat {
+        let flat = Flat { last: machine.last, t, j, l, solo, ..Flat::default() };
+        match machine.resting {
+            Resting::S1 => Flat { state: 1, ..flat },
+            Resting::S2 { key, m } => Flat { state: 2, key, m, ..flat },
+            Resting::S3 { thumb, o } => Flat { state: 3, thumb: number(thumb), o, ..flat },
+            Resting::S4 { key, m, thumb, o } => {
+                Flat { state: 4, key, m, thumb: number(thumb), o, ..flat }
+            }
+            Resting::S5 { thumb, o, key, m } => {
+                Flat { state: 5, thumb: number(thumb), o, key, m, ..flat }
+            }
+            Resting::S6 { thumb, o, key, m, r } => {
+                Flat { state: 6, thumb: number(thumb), o, key, m, r, ..flat }
+            }
+        }
+    }
+
+    /// The machine that the numbers name; refusal 2 if they name none or one that
+    /// is not well formed.
+    pub fn machine(&self, wrong: Wrong) -> Result<Machine, u32> {
+        let ignored = wrong.live(LiveSlip::LeftOverIgnored);
+        let settings = self.settings().ok_or(2u32)?.with_slip(wrong.machine);
+        let resting = self.resting().filter(|_| ignored || self.nothing_left_over()).ok_or(2u32)?;
+        let machine = Machine { settings, resting, last: self.last };
+        if machine.well_formed() {
+            Ok(machine)
+        } else {
+            Err(2)
+        }
+    }
+
+    fn settings(&self) -> Option<Settings> {
+        Settings::new(self.t.into(), self.j.into(), self.l.into(), self.solo.into())
+    }
+
+    pub fn raw_settings(&self) -> RawSettings {
+        (self.t, self.j, self.l, self.solo)
+    }
+
+    /// The resting state, by the numbers that it uses.
+    fn resting(&self) -> Option<Resting> {
+        let Flat { m, o, r, key, .. } = *self;
+        let thumb = thumb(self.thumb);
+        match self.state {
+            1 => Some(Resting::S1),
+            2 => Some(Resting::S2 { key, m }),
+            3 => Some(Resting::S3 { thumb: thumb?, o }),
+            4 => Some(Resting::S4 { key, m, thumb: thumb?, o }),
+            5 => Some(Resting::S5 { thumb: thumb?, o, key, m }),
+            6 => Some(Resting::S6 { thumb: thumb?, o, key, m, r }),
+            _ => None,
+        }
+    }
+
+    /// Every number that the state doesn't use is 0.
+    fn nothing_left_over(&self) -> bool {
+        let (key, thumb) = (u64::from(self.key), u64::from(self.thumb));
+        let left_over = match self.state {
+            1 => self.m | self.o | self.r | key | thumb,
+            2 => self.o | self.r | thumb,
+            3 => self.m | self.r | key,
+            4 | 5 => self.r,
+            _ => 0,
+        };
+        left_over == 0
+    }
+}
+
+fn number(thumb: Thumb) -> u8 {
+    match thumb {
+        Thumb::Left => 0,
+        Thumb::Right => 1,
+    }
+}
+
+// ---- Opening, stepping, asking ----
+
+#[repr(C)]
+#[derive(Clone, Copy, PartialEq, Eq, Debug)]
+pub struct Opened {
+    pub machine: Flat,
+    pub number: u64,
+}
+
+pub fn open(raw: RawSettings) -> Opened {
+    let (t, j, l, solo) = raw;
+    match Settings::new(t.into(), j.into(), l.into(), solo.into()) {
+        Some(settings) => Opened { machine: Flat::of(raw, &Machine::fresh(settings)), number: 0 },
+        None => Opened { machine: Flat::default(), number: 1 },
+    }
+}
+
+/// A step's answer; words and signs as in a log, 0 where there is none.
+#[repr(C)]
+#[derive(Clone, Copy, PartialEq, Eq, Default, Debug)]
+pub struct Stepped {
+    pub machine: Flat,
+    pub number: u32,
+    pub items: u32,
+    pub first: u16,
+    pub second: u16,
+    pub backspace: u16,
+    pub sent_first: u16,
+    pub sent_second: u16,
+    pub sent_third: u16,
+}
+
+/// Takes one event with the machine that the numbers name.
+pub fn step_numbers(wrong: Wrong, flat: &Flat, event: Event) -> Stepped {
+    match flat.machine(wrong).and_then(|machine| step(&machine, event)) {
+        Err(number) => {
+            let cleared = wrong.live(LiveSlip::RefusedCleared);
+            let machine = if cleared { Flat::default() } else { *flat };
+            Stepped { machine, number, ..Stepped::default() }
+        }
+        Ok(step) => {
+            let words = step.items.iter().map(|item| sign(item).map_or(0, word));
+            let words: Vec<u16> = match wrong.live {
+                Some(LiveSlip::EmptyFaceNoItem) => words.filter(|word| *word != 0).collect(),
+                _ => words.collect(),
+            };
+            let sent = step.sendings.iter().filter_map(|sending| match sending {
+                Sending::Backspace => None,
+                Sending::Sign(sign) => Some(word(*sign)),
+            });
+            let backspaces = step.sendings.iter().filter(|s| **s == Sending::Backspace);
+            let [first, second] = in_places(words.iter().copied());
+            let [sent_first, sent_second, sent_third] = in_places(sent);
+            Stepped {
+                machine: Flat::of(flat.raw_settings(), &step.machine),
+                number: 0,
+                items: words.len() as u32,
+                first,
+                second,
+                backspace: backspaces.count() as u16,
+                sent_first,
+                sent_second,
+                sent_third,
+            }
+        }
+    }
+}
+
+/// The words in their order, 0 behind the last.
+fn in_places<const N: usize>(words: impl Iterator<Item = u16>) -> [u16; N] {
+    let mut places = [0; N];
+    places.iter_mut().zip(words).for_each(|(place, word)| *place = word);
+    places
+}
+
+/// A distance's answer; `deadline` is 1 if there is one.
+#[repr(C)]
+#[derive(Clone, Copy, PartialEq, Eq, Default, Debug)]
+pub struct Asked {
+    pub number: u32,
+    pub deadline: u32,
+    pub milliseconds: i64,
+}
+
+/// Request 3/12 of the machine that the numbers name.
+pub fn distance(wrong: Wrong, flat: &Flat, stamp: u64) -> Asked {
+    let answer = flat.machine(wrong).and_then(|machine| machine.distance(stamp));
+    match slipped(wrong.live, flat, stamp, answer) {
+        Err(number) => Asked { number, ..Asked::default() },
+        Ok(None) => Asked::default(),
+        Ok(Some(milliseconds)) => Asked { number: 0, deadline: 1, milliseconds },
+    }
+}
+
+type Distance = Result<Option<i64>, u32>;
+
+/// The right answer, turned into the one that a wrong rule gives.
+fn slipped(slip: Option<LiveSlip>, flat: &Flat, stamp: u64, answer: Distance) -> Distance {
+    // A deadline from the last accepted stamp, and from there to the stamp.
+    let from_last = || -> Distance {
+        let right = flat.machine(Wrong::default())?.distance(flat.last)?;
+        Ok(right.map(|right| right + (flat.last - stamp) as i64))
+    };
+    match (slip, answer) {
+        (Some(LiveSlip::SignTurned), Ok(Some(right))) => Ok(Some(-right)),
+        (Some(LiveSlip::OffByOne), Ok(Some(right))) => Ok(Some(right + 1)),
+        (Some(LiveSlip::OverdueAsZero), Ok(Some(right))) => Ok(Some(right.max(0))),
+        (Some(LiveSlip::NoneAsZero), Ok(None)) => Ok(Some(0)),
+        (Some(LiveSlip::EarlyAnswered), Err(5)) => from_last(),
+        (Some(LiveSlip::NumbersExchanged), Err(number @ 4..=5)) => Err(9 - number),
+        (Some(LiveSlip::StampFirst), Err(2)) if stamp > LARGEST_STAMP => Err(4),
+        (Some(LiveSlip::StampFirst), Err(2)) if stamp < flat.last => Err(5),
+        _ => answer,
+    }
+}
