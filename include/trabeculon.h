@@ -146,14 +146,16 @@ trabeculon_drill trabeculon_write_drill(uint16_t t, uint8_t j, uint8_t l,
  *     are on the screen already and are not to be shown once more: after every
  *     step the screen is the committed line and behind it the character that
  *     waits, if one does (one whose face is empty shows nothing).
- *   - Then: trabeculon_distance with the machine and a stamp of the keyboard, for
- *     example the event's. If there is a deadline, arrange a tick for when it is
- *     due: in so many milliseconds, or at once if the answer is 0 or negative. A
- *     tick is a step with kind 6, key 0 and the stamp of the keyboard's clock at
- *     that time. One too early or too many does no harm. Nor does a late one or a
- *     missing one, but that signs come late, since every event first does what is
- *     due before it. No stamp may run ahead of the keyboard's clock, or the
- *     keyboard's next event comes before it and is refused 5.
+ *   - Then: trabeculon_distance with the machine and a stamp of the keyboard: the
+ *     event's if it was accepted, else the machine's own last, since asking is
+ *     refused where a tick with that stamp would be. If number is 0 and there is a
+ *     deadline, arrange a tick for when it is due: in so many milliseconds, or at
+ *     once if the answer is 0 or negative. A tick is a step with kind 6, key 0 and
+ *     the stamp of the keyboard's clock at that time. One too early or too many
+ *     does no harm. Nor does a late one or a missing one, but that signs come
+ *     late, since every event first does what is due before it. No stamp may run
+ *     ahead of the keyboard's clock, or the keyboard's next event comes before it
+ *     and is refused 5.
  *
  * All stamps are milliseconds of the keyboard's own clock, never of the host's.
  * The host keeps the machine. Nothing is kept here between two calls, so any
@@ -189,8 +191,8 @@ trabeculon_drill trabeculon_write_drill(uint16_t t, uint8_t j, uint8_t l,
  * every stamp that the state uses is at most last, last is at most
  * 1,000,000,000,000, and m <= o in state 4, o <= m in state 5, o <= m <= r in
  * state 6. Numbers that name no machine, or one that is not well formed, are
- * refused 2. The machine that trabeculon_open or trabeculon_step answers beside
- * number 0 is well formed.
+ * refused 2. The machine that trabeculon_open answers beside number 0 is well
+ * formed, and so is every machine that steps from it hand on.
  *
  * It is 40 bytes with no padding, so two can be compared byte for byte.
  */
@@ -271,8 +273,8 @@ typedef struct {
  * is the keyboard's.
  *
  * If the machine's deadline is at or before the stamp, what is due is done first,
- * and then the event acts. Stepping through the events of a log commits the words
- * that trabeculon_read_log writes for it.
+ * and then the event acts. Stepping through the events of a log that
+ * trabeculon_read_log accepts commits the words that it writes.
  */
 trabeculon_stepped trabeculon_step(trabeculon_machine machine, uint8_t kind,
                                    uint8_t key, uint64_t stamp);
@@ -286,7 +288,8 @@ trabeculon_stepped trabeculon_step(trabeculon_machine machine, uint8_t kind,
  *               5  stamp before the last accepted one
  *               They are tried in this order; the first that holds is given.
  * deadline      1 if the machine has a deadline. 0 if it has none: then no tick
- *               is needed before the next event. 0 also beside any number but 0.
+ *               is needed before the next event. 0 also beside any number but 0,
+ *               which says nothing of a deadline: look at number first.
  * milliseconds  from the stamp to the deadline: positive still to wait, 0 due
  *               now, negative overdue by so many. 0 where deadline is 0.
  */
@@ -302,7 +305,7 @@ typedef struct {
  * with each other.
  *
  * While the answer for a stamp is positive, or that there is no deadline, a tick
- * with that stamp changes only the last stamp; from 0 on it does what is due.
+ * with that stamp changes only the last stamp; at 0 or below it does what is due.
  * There is no deadline in state 1, one in state 3 only with solo 1, and always
  * one in the other states.
  */

@@ -1,7 +1,7 @@
 -- Laws of a step that its functions lean on.
 use mathlib.Core.Path.{_≡_, refl, sym}
 use mathlib.Core.Bool.{true, false}
-use mathlib.Core.List.{[], append-nil}
+use mathlib.Core.List.{append-nil}
 use Prim.Native.Nat.{ℕ}
 use native.Mathlib.Omega.{arith}
 use mathlib.Core.Option.{Option, none, some}
@@ -16,24 +16,14 @@ use Rattle.rules.specs.declared.Resting.{Resting}
 use Rattle.rules.specs.declared.Machine.{Machine}
 use Rattle.rules.specs.declared.Event.{Event}
 use Rattle.rules.specs.declared.Input.{Input}
-use Rattle.rules.specs.declared.Input.the-variants.{CharacterDown, CharacterUp, ThumbDown, ThumbUp, FunctionDown, Tick}
 use Rattle.rules.proofs.Choices.{both-ways, by-test}
-use Rattle.rules.proofs.StepFacts.{late-leaves-S1}
-
--- no event commits anything in S1
-S1-commits-nothing : (now : Stamp) (i : Input) → in-S1 now i .items ≡ []
-S1-commits-nothing now (CharacterDown N) = refl
-S1-commits-nothing now (CharacterUp N) = refl
-S1-commits-nothing now (ThumbDown P) = refl
-S1-commits-nothing now (ThumbUp P) = refl
-S1-commits-nothing now FunctionDown = refl
-S1-commits-nothing now Tick = refl
+use Rattle.rules.proofs.StepFacts.{S1-commits-nothing, late-leaves-S1}
 
 -- an event at a state that is due: the items are the late ones
 pub late-first : (s : Settings) (now : Stamp) (x : Resting) (i : Input) → due-by now (deadline s x) ≡ true
     → one-event s now x i ≡ (late s x .items leaving in-S1 now i .resting)
 unfolding one-event settle
-late-first s now x i e = rw (e, late-leaves-S1 s x, S1-commits-nothing now i, append-nil (late s x .items))
+late-first s now x i e = rw (e, late-leaves-S1 s x, S1-commits-nothing s now i, append-nil (late s x .items))
 
 pub not-late : (s : Settings) (now : Stamp) (x : Resting) (i : Input) → due-by now (deadline s x) ≡ false
     → one-event s now x i ≡ act s now x i

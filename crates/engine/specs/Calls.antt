@@ -1,9 +1,14 @@
 -- What a caller of `Machine::open` and `engine::step` sees. Each clause below follows from the contract of one of the two functions, and both
--- hold at every input, so a caller's own sequence of calls is a `CodeRun`, whatever the settings and the events are.
+-- hold at every input, so a caller's own sequence of calls is a `CodeRun`, whatever the settings and the events are. Of every
+-- `CodeRun` the record at the end is proved, in proofs/Calls.antt.
 use mathlib.Core.Path.{_≡_}
+use mathlib.Core.Bool.{true}
 use mathlib.Core.List.{List, [], _∷_, _++_}
-use Rattle.rules.specs.States.{opening, opened}
+use Rattle.rules.specs.Numbers.{in-range}
+use Rattle.rules.specs.States.{fresh, opening, opened}
 use Rattle.rules.specs.GivenBack.{Answer, step}
+use Rattle.rules.specs.Sequences.{along, state}
+use Rattle.rules.specs.Demand3.{Demand3}
 use Rattle.rules.specs.declared.Settings.{Settings}
 use Rattle.rules.specs.declared.Machine.{Machine}
 use Rattle.rules.specs.declared.Opened.the-variants.{Ready}
@@ -33,3 +38,11 @@ abbrev pub along-calls : {X : Type 0} → (Event → Answer → List X) → List
 along-calls f [] rs = []
 along-calls f (e ∷ es) [] = []
 along-calls f (e ∷ es) (r ∷ rs) = f e (stepped r) ++ along-calls f es rs
+
+-- Demand 3 is about what the two functions return: the calls leave the machine, and give the readings (items, sendings, presses,
+-- numbers: any f), of the definition's sequence from a fresh state, and of that sequence demand 3 holds.
+pub record OfTheCode (s : Settings) (m : Machine) (es : List Event) (rs : List Stepped) : Type 1 where
+  pub settings-in-range : in-range s ≡ true
+  pub same-machine : last-machine m rs ≡ state s es
+  pub same-readings : {X : Type 0} (f : Event → Answer → List X) → along-calls f es rs ≡ along f (fresh s) es
+  pub demand-3-holds : Demand3 s es

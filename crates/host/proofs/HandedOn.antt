@@ -1,16 +1,22 @@
 -- What a C host leans on when it hands a keyboard's numbers from call to call.
+use native.Mathlib.Omega.{arith}
+use mathlib.Core.List.{List, map}
 use mathlib.Core.Logic.{_≢_}
 use mathlib.Core.Option.{Option, none, some}
-use mathlib.Core.Path.{_≡_, refl}
-use Rattle.rules.specs.States.{opening}
+use mathlib.Core.Path.{_≡_, refl, ap, _∙_}
+use Rattle.rules.specs.Numbers.{in-range}
+use Rattle.rules.specs.States.{fresh, Opening, opening}
 use Rattle.rules.specs.GivenBack.{Verdict, refused, accepted, judge, answer, step}
+use Rattle.rules.specs.declared.Settings.{Settings}
 use Rattle.rules.specs.declared.Machine.{Machine}
 use Rattle.rules.specs.declared.Event.{Event}
+use Rattle.rules.proofs.Choices.{both-ways}
 use Rattle.flat.specs.Fields.{flat, resting-named, named}
 use Rattle.flat.specs.declared.Flat.{Flat}
 use Rattle.flat.proofs.RoundTrip.{loses-nothing}
-use Rattle.host.specs.Keyboard.{no-machine, numbers-of, answered-numbers, refused-numbers, step-named, step-numbers}
-use Rattle.host.specs.KeyboardFacts.{KeyboardFacts}
+use Rattle.host.specs.Keyboard.{no-machine, numbers-of, open-numbers, answered-numbers, refused-numbers, step-named, step-numbers}
+use Rattle.host.specs.declared.keyboard.StepAnswer.{StepAnswer}
+use Rattle.host.specs.KeyboardFacts.{KeyboardCalls, no-more, call, answers, KeyboardFacts}
 
 -- there is no state 0
 names-none : named no-machine ≡ none
@@ -40,10 +46,35 @@ refuses f e = go (named f) refl
     go none h k = refl
     go (some x) h k = by-verdict f x e (loses-nothing .one-form f x h) (judge x e) k
 
+-- a call at numbers that name a machine
+call-answers : (f : Flat) (x : Machine) (e : Event) → named f ≡ some x → step-numbers f e ≡ answered-numbers (step x e)
+unfolding step-numbers
+call-answers f x e h = rw h
+
+runs-from : {f : Flat} {es : List Event} {rs : List StepAnswer} (x : Machine) → named f ≡ some x → KeyboardCalls f es rs
+    → rs ≡ map answered-numbers (answers x es)
+runs-from x h no-more = refl
+runs-from x h (call {f = f} {e = e} {r = r} same more) =
+    let here : r ≡ answered-numbers (step x e) = same ∙ call-answers f x e h in
+    let rest = runs-from (step x e .machine) (ap (λ (a : StepAnswer). named (a .machine)) same ∙ steps-on f x e h) more in
+    rw (here, rest)
+
+-- what was opened is fresh
+opened-fresh : (s : Settings) → opening s .number ≡ 0 → opening s .machine ≡ some (fresh s)
+unfolding opening
+opened-fresh s =
+    both-ways (λ (o : Opening). o .number ≡ 0 → o .machine ≡ some (fresh s)) (in-range s) (λ _. refl) (λ z. absurd (omega arith))
+
+runs : (s : Settings) → opening s .number ≡ 0 → (es : List Event) (rs : List StepAnswer)
+    → KeyboardCalls (open-numbers (opening s) .machine) es rs
+    → rs ≡ map answered-numbers (answers (fresh s) es)
+runs s z es rs calls = runs-from (fresh s) (numbers-name (opening s .machine) ∙ opened-fresh s z) calls
+
 pub keyboard-facts : KeyboardFacts
 keyboard-facts =
     record {
       opens = λ s. numbers-name (opening s .machine);
       steps-on = steps-on;
       refuses = refuses;
+      runs = runs;
     }

@@ -13,10 +13,11 @@ use Rattle.rules.specs.Numbers.{largest-stamp}
 use Rattle.rules.specs.States.{later, deadline, well-formed}
 use Rattle.rules.specs.OneEvent.{_leaving_, nothing, mark, late, due-by, settle}
 use Rattle.rules.specs.ZeroDelay.{shown, sent}
-use Rattle.rules.specs.GivenBack.{input, Answer, acceptance, step}
+use Rattle.rules.specs.Choice.{if_then_else_}
+use Rattle.rules.specs.GivenBack.{input, refused, accepted, judge, Answer, acceptance, answer, step}
 use Rattle.rules.specs.Demand3.{tick}
-use Rattle.rules.specs.Distance.{distance, distance-to, Asking, asking}
-use Rattle.rules.specs.DistanceFacts.{IsDue, Overdue, less, Unchanged, LateLine, DistanceFacts}
+use Rattle.rules.specs.Distance.{distance, distance-to, Asking, not-answered, asking}
+use Rattle.rules.specs.DistanceFacts.{IsDue, DueOrOverdue, less, only-last, late-line, DistanceFacts, SameRefusals}
 use Rattle.rules.specs.declared.Stamp.{Stamp}
 use Rattle.rules.specs.declared.Settings.{Settings}
 use Rattle.rules.specs.declared.Resting.{Resting}
@@ -88,10 +89,29 @@ answers m now =
     (λ late z. record { formed = w; not-above = ltb-false _ _ low; not-before = ltb-false _ _ late })))
     (λ _ z. absurd (omega arith))
 
-module _ (m : Machine) (now : Stamp) (a : Answers m now) where
-  due : Option Stamp
-  due = deadline (m .settings) (m .resting)
+-- by the three tests: asking and a tick make the same ones, in the same order
+same-tests : (m : Machine) (now : Stamp) (d : Option ℤ) (formed above before : Bool)
+    → (if formed then
+      (if above then not-answered 4 else if before then not-answered 5 else record { number = 0; distance = d })
+      else not-answered 2) .number
+    ≡ answer m now
+      (if formed then (if above then refused 4 else if before then refused 5 else accepted Tick) else refused 2) .number
+same-tests m now d false above before = refl
+same-tests m now d true true before = refl
+same-tests m now d true false true = refl
+same-tests m now d true false false = refl
 
+pub same-refusals : (m : Machine) (now : Stamp) → SameRefusals m now
+unfolding asking step judge input
+same-refusals m now =
+    same-tests m now (distance-to now (deadline (m .settings) (m .resting))) (well-formed m) (ltb largest-stamp (now .0))
+    (ltb (now .0) (m .last .0))
+
+-- a tick that is accepted
+accepts : (m : Machine) (t : Stamp) → step m (tick t) .number ≡ 0 → Answers m t
+accepts m t h = answers m t (same-refusals m t ∙ h)
+
+module _ (m : Machine) (now : Stamp) (a : Answers m now) where
   answer-is : asking m now ≡ record { number = 0; distance = distance-to now (deadline (m .settings) (m .resting)) }
   unfolding asking
   answer-is = rw (a .formed, le-ltb largest-stamp (now .0) (a .not-above), le-ltb (now .0) (m .last .0) (a .not-before))
@@ -124,6 +144,12 @@ unfolding sent
 sent-same [] = refl
 sent-same (c ∷ p) = rw (eq-eqb c c refl) (sent-same p)
 
+-- there is a deadline, at or before now
+record Passed (m : Machine) (now : Stamp) : Type 0 where
+  at : Stamp
+  is-deadline : deadline (m .settings) (m .resting) ≡ some at
+  passed : due-by now (deadline (m .settings) (m .resting)) ≡ true
+
 -- d milliseconds later, d less
 distance-later : (now : Stamp) (d : ℕ) (o : Option Stamp) → distance-to (later now d) o ≡ less d (distance-to now o)
 distance-later now d none = refl
@@ -148,26 +174,37 @@ module _ (m : Machine) (now : Stamp) (a : Answers m now) where
       → step m (tick now) ≡ acceptance m now (nothing leaving (m .resting))
   tick-idle h = tick-settles m now a ∙ ap (acceptance m now) (settle-not-due (m .settings) now (m .resting) h)
 
+  tick-only-last : due-by now (deadline (m .settings) (m .resting)) ≡ false → step m (tick now) ≡ only-last m now
+  tick-only-last h = tick-idle h ∙ rw (sent-same (shown (m .resting)))
+
   idle-commits-nothing : due-by now (deadline (m .settings) (m .resting)) ≡ false → step m (tick now) .items ≡ []
   idle-commits-nothing h = ap (λ (r : Answer). r .items) (tick-idle h)
 
-  due-commits : Overdue (asking m now .distance) → step m (tick now) .items ≢ []
-  due-commits over = go (deadline (m .settings) (m .resting)) refl
+  -- an answer of 0 or below is a deadline at or before now
+  due-deadline : DueOrOverdue (asking m now .distance) → Passed m now
+  due-deadline over = go (deadline (m .settings) (m .resting)) refl
     where
-      go : (o : Option Stamp) → deadline (m .settings) (m .resting) ≡ o → step m (tick now) .items ≢ []
+      go : (o : Option Stamp) → deadline (m .settings) (m .resting) ≡ o → Passed m now
       go none e = absurd (none-is-not-some (sym (asked none e) ∙ over .is-answer))
       go (some d) e =
           let same : over .distance ≡ subℕ (d .0) (now .0) =
           some-injective (sym (over .is-answer) ∙ asked (some d) e) ∙ difference (d .0) (now .0) in
           let le = due-at-most (d .0) (now .0) (subst IsDue same (over .is-due)) in
-          let is-due = ap (due-by now) e ∙ le-leb (d .0) (now .0) le in
-          λ none-left. late-commits (m .settings) (m .resting) d e (sym (ap (λ (r : Answer). r .items) (tick-late is-due)) ∙ none-left)
+          record { at = d; is-deadline = e; passed = ap (due-by now) e ∙ le-leb (d .0) (now .0) le }
 
-  commits-due : step m (tick now) .items ≢ [] → Overdue (asking m now .distance)
+  due-is-late : DueOrOverdue (asking m now .distance) → step m (tick now) ≡ late-line m now
+  due-is-late over = tick-late (due-deadline over .passed)
+
+  due-commits : DueOrOverdue (asking m now .distance) → step m (tick now) .items ≢ []
+  due-commits over none-left =
+      let d = due-deadline over in
+      late-commits (m .settings) (m .resting) (d .at) (d .is-deadline) (sym (ap (λ (r : Answer). r .items) (due-is-late over)) ∙ none-left)
+
+  commits-due : step m (tick now) .items ≢ [] → DueOrOverdue (asking m now .distance)
   commits-due some-left = go (deadline (m .settings) (m .resting)) refl
     where
       by : (d : Stamp) → deadline (m .settings) (m .resting) ≡ some d → (t : Bool) → leb (d .0) (now .0) ≡ t
-          → Overdue (asking m now .distance)
+          → DueOrOverdue (asking m now .distance)
       by d e true h =
           record {
             distance = distance now d;
@@ -176,7 +213,7 @@ module _ (m : Machine) (now : Stamp) (a : Answers m now) where
           }
       by d e false h = absurd (some-left (idle-commits-nothing (ap (due-by now) e ∙ h)))
 
-      go : (o : Option Stamp) → deadline (m .settings) (m .resting) ≡ o → Overdue (asking m now .distance)
+      go : (o : Option Stamp) → deadline (m .settings) (m .resting) ≡ o → DueOrOverdue (asking m now .distance)
       go none e = absurd (some-left (idle-commits-nothing (ap (due-by now) e)))
       go (some d) e = by d e (leb (d .0) (now .0)) refl
 
@@ -204,28 +241,29 @@ module _ (m : Machine) (now : Stamp) (a : Answers m now) where
           left-over (d .0) (now .0) n (sym (difference (d .0) (now .0)) ∙ some-injective (sym (asked (some d) e) ∙ h)) in
           ap (λ (k : ℕ). some (record { 0 = k })) is
 
+  -- no deadline
+  deadline-none : asking m now .distance ≡ none → deadline (m .settings) (m .resting) ≡ none
+  deadline-none h = go (deadline (m .settings) (m .resting)) refl
+    where
+      go : (o : Option Stamp) → deadline (m .settings) (m .resting) ≡ o → o ≡ none
+      go none e = refl
+      go (some d) e = absurd (none-is-not-some (sym h ∙ asked (some d) e))
+
 module _ (m : Machine) (now : Stamp) (a : Answers m now) where
-  early-tick : (n : ℕ) → asking m now .distance ≡ some (pos n) → (d : ℕ) → d < n → now .0 + d ≤ largest-stamp
-      → Unchanged m (step m (tick (later now d)))
-  early-tick n h d lt low =
-      let b = answers-later m now a d low in
-      let idle =
-      tick-idle m (later now d) b
-      (ap (due-by (later now d)) (deadline-in m now a n h) ∙ lt-leb (now .0 + n) (now .0 + d) (omega arith)) in
-      record {
-        no-items = ap (λ (r : Answer). r .items) idle;
-        no-sendings = ap (λ (r : Answer). r .sendings) idle ∙ sent-same (shown (m .resting));
-        same-resting = ap (λ (r : Answer). r .machine .resting) idle;
-      }
+  early-tick : (n : ℕ) → asking m now .distance ≡ some (pos n) → (t : Stamp) → t .0 < now .0 + n → step m (tick t) .number ≡ 0
+      → step m (tick t) ≡ only-last m t
+  early-tick n h t lt taken =
+      tick-only-last m t (accepts m t taken)
+      (ap (due-by t) (deadline-in m now a n h) ∙ lt-leb (now .0 + n) (t .0) lt)
 
   tick-on-time : (n : ℕ) → asking m now .distance ≡ some (pos n) → now .0 + n ≤ largest-stamp
-      → LateLine m (step m (tick (later now n)))
+      → step m (tick (later now n)) ≡ late-line m (later now n)
   tick-on-time n h low =
-      let b = answers-later m now a n low in
-      let done =
-      tick-late m (later now n) b
-      (ap (due-by (later now n)) (deadline-in m now a n h) ∙ le-leb (now .0 + n) (now .0 + n) (omega arith)) in
-      record { late-items = ap (λ (r : Answer). r .items) done; late-resting = ap (λ (r : Answer). r .machine .resting) done }
+      tick-late m (later now n) (answers-later m now a n low)
+      (ap (due-by (later now n)) (deadline-in m now a n h) ∙ le-leb (now .0 + n) (now .0 + n) (omega arith))
+
+  never-due : asking m now .distance ≡ none → (t : Stamp) → step m (tick t) .number ≡ 0 → step m (tick t) ≡ only-last m t
+  never-due h t taken = tick-only-last m t (accepts m t taken) (ap (due-by t) (deadline-none m now a h))
 
 pub distance-facts : (m : Machine) (now : Stamp) → asking m now .number ≡ 0 → DistanceFacts m now
 distance-facts m now answered =
@@ -233,7 +271,9 @@ distance-facts m now answered =
     record {
       due-commits = due-commits m now a;
       commits-due = commits-due m now a;
+      due-is-late = due-is-late m now a;
       later-is-less = later-is-less m now a;
       early-tick = early-tick m now a;
       tick-on-time = tick-on-time m now a;
+      never-due = never-due m now a;
     }

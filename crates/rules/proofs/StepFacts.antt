@@ -94,7 +94,8 @@ late-few s (S4 M m O o) = omega arith
 late-few s (S5 O o M m) = omega arith
 late-few s (S6 O o M m r) = mark-and s O (Character M Plain ∷ []) (omega arith)
 
-S1-commits-nothing : (s : Settings) (now : Stamp) (i : Input) → act s now S1 i .items ≡ []
+-- no event commits anything in S1
+pub S1-commits-nothing : (s : Settings) (now : Stamp) (i : Input) → act s now S1 i .items ≡ []
 S1-commits-nothing s now (CharacterDown N) = refl
 S1-commits-nothing s now (CharacterUp N) = refl
 S1-commits-nothing s now (ThumbDown P) = refl

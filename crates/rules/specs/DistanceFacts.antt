@@ -8,7 +8,7 @@ use lib.IntN.{ℤ, pos, negsuc, _-ℤ_}
 use Rattle.rules.specs.Numbers.{largest-stamp}
 use Rattle.rules.specs.States.{later}
 use Rattle.rules.specs.OneEvent.{late}
-use Rattle.rules.specs.GivenBack.{Answer, step}
+use Rattle.rules.specs.GivenBack.{Answer, acceptance, step}
 use Rattle.rules.specs.Demand3.{tick}
 use Rattle.rules.specs.Distance.{asking}
 use Rattle.rules.specs.declared.Stamp.{Stamp}
@@ -20,7 +20,8 @@ IsDue (pos zero) = Unit {0}
 IsDue (pos (suc n)) = ⊥
 IsDue (negsuc n) = Unit {0}
 
-pub record Overdue (answer : Option ℤ) : Type 0 where
+-- there is a deadline, and it is due now or overdue
+pub record DueOrOverdue (answer : Option ℤ) : Type 0 where
   pub distance : ℤ
   pub is-answer : answer ≡ some distance
   pub is-due : IsDue distance
@@ -30,27 +31,38 @@ abbrev pub less : ℕ → Option ℤ → Option ℤ
 less d none = none
 less d (some z) = some (z -ℤ pos d)
 
--- nothing committed, nothing sent, and the same state at rest
-pub record Unchanged (m : Machine) (r : Answer) : Type 0 where
-  pub no-items : r .items ≡ []
-  pub no-sendings : r .sendings ≡ []
-  pub same-resting : r .machine .resting ≡ m .resting
+-- an accepted event that commits nothing, sends nothing and changes only the last stamp
+abbrev pub only-last : Machine → Stamp → Answer
+only-last m t =
+    record {
+      number = 0;
+      items = [];
+      sendings = [];
+      machine = record { settings = m .settings; resting = m .resting; last = t };
+    }
 
--- the line "late" is done
-pub record LateLine (m : Machine) (r : Answer) : Type 0 where
-  pub late-items : r .items ≡ late (m .settings) (m .resting) .items
-  pub late-resting : r .machine .resting ≡ late (m .settings) (m .resting) .resting
+-- an accepted event that does the line "late", and nothing else
+abbrev pub late-line : Machine → Stamp → Answer
+late-line m t = acceptance m t (late (m .settings) (m .resting))
 
--- Of every machine m and stamp now at which it answers.
+-- Of every machine m and stamp now at which it answers. A tick is accepted if its number is 0.
 pub record DistanceFacts (m : Machine) (now : Stamp) : Type 0 where
-  -- a tick at the asked stamp commits something if and only if the answer is 0 or negative
-  pub due-commits : Overdue (asking m now .distance) → step m (tick now) .items ≢ []
-  pub commits-due : step m (tick now) .items ≢ [] → Overdue (asking m now .distance)
+  -- a tick at the asked stamp commits something if and only if the answer is 0 or negative, and what it does is the line "late"
+  pub due-commits : DueOrOverdue (asking m now .distance) → step m (tick now) .items ≢ []
+  pub commits-due : step m (tick now) .items ≢ [] → DueOrOverdue (asking m now .distance)
+  pub due-is-late : DueOrOverdue (asking m now .distance) → step m (tick now) ≡ late-line m now
   -- asked d milliseconds later, the answer is d less
   pub later-is-less : (d : ℕ) → now .0 + d ≤ largest-stamp
       → asking m (later now d) ≡ record { number = 0; distance = less d (asking m now .distance) }
-  -- n milliseconds are left: a tick before that changes nothing, and one at exactly n does the late line
-  pub early-tick : (n : ℕ) → asking m now .distance ≡ some (pos n) → (d : ℕ) → d < n → now .0 + d ≤ largest-stamp
-      → Unchanged m (step m (tick (later now d)))
+  -- n milliseconds are left: an accepted tick before that changes only the last stamp, and one at exactly n does the late line
+  pub early-tick : (n : ℕ) → asking m now .distance ≡ some (pos n) → (t : Stamp) → t .0 < now .0 + n
+      → step m (tick t) .number ≡ 0
+      → step m (tick t) ≡ only-last m t
   pub tick-on-time : (n : ℕ) → asking m now .distance ≡ some (pos n) → now .0 + n ≤ largest-stamp
-      → LateLine m (step m (tick (later now n)))
+      → step m (tick (later now n)) ≡ late-line m (later now n)
+  -- no deadline: no accepted tick changes more than the last stamp
+  pub never-due : asking m now .distance ≡ none → (t : Stamp) → step m (tick t) .number ≡ 0 → step m (tick t) ≡ only-last m t
+
+-- Of every machine and stamp: asking is refused as a tick with that stamp is, and Refusals.antt says when that is.
+abbrev pub SameRefusals : Machine → Stamp → Type 0
+SameRefusals m now = asking m now .number ≡ step m (tick now) .number

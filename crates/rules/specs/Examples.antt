@@ -149,12 +149,16 @@ no-deadline = record { number = 0; distance = none }
 abbrev pub refused : ℕ → Asking
 refused n = not-answered n
 
--- Distances of 3/12, before, at and after P1's deadline; and its refusals.
+-- Distances of 3/12: to the deadlines of examples above, one for each state that has one; and the refusals.
 abbrev pub distances : List Example
 distances =
-    example "to the deadline of P1" usual
+    example "P1" usual
     (asked 0 no-deadline ∷ down 21 0 ∷ asked 0 (to-wait 100) ∷ asked 99 (to-wait 1) ∷ asked 100 due-now ∷ asked 101 one-late ∷
     tick 100 ∷ asked 100 no-deadline ∷ []) ∷
+    example "P3" usual (down 21 0 ∷ thumb Right 30 ∷ asked 59 (to-wait 1) ∷ asked 60 due-now ∷ []) ∷
+    example "P5" usual (thumb Right 0 ∷ down 21 30 ∷ asked 59 (to-wait 1) ∷ []) ∷
+    example "P11" usual (thumb Right 0 ∷ down 21 1000 ∷ asked 1099 (to-wait 1) ∷ []) ∷
+    example "P9" with-solo (thumb Right 0 ∷ down 21 40 ∷ thumb-up Right 60 ∷ asked 79 (to-wait 1) ∷ asked 81 one-late ∷ []) ∷
     example "a thumb alone, solo 0" usual (thumb Right 0 ∷ asked 1000 no-deadline ∷ []) ∷
     example "a thumb alone, solo 1" with-solo (thumb Right 0 ∷ asked 40 (to-wait 60) ∷ []) ∷
     example "refused" usual

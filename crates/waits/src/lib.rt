@@ -1,7 +1,8 @@
-// Arithmetic of stamps and lags. Stamps, lags and key numbers are unwrapped here, and where a key is an index into the layout.
+// Arithmetic of stamps and lags. Stamps, lags and key numbers are unwrapped here, where a key is an index into the layout, and
+// where a machine is handed over as numbers.
 // Every function takes any numbers: a sum that would not fit stops at the largest number, a lag that is multiplied counts as
-// the largest stamp at most, and a stamp that is subtracted as the largest signed number. None of these bounds is met in a
-// machine that is well formed, at a stamp that it accepts.
+// the largest stamp at most, and a stamp in a difference as the largest signed number at most. None of these bounds is met in
+// a machine that is well formed, at a stamp that it accepts.
 use rules::Key;
 use rules::Lag;
 use rules::Machine;
@@ -45,7 +46,7 @@ pub fn later(from: Stamp, by: Lag) -> Stamp
     Stamp(start + more)
 }
 
-// A stamp as a signed number.
+// A stamp as a signed number, at most the largest of these.
 fn signed(stamp: Stamp) -> i64
     ensures { λ r. ⌜ r ≡ signed-at-most stamp ⌝ }
 {
