@@ -1,5 +1,5 @@
--- The worked examples of document 01 hold, and so do the numbers that it works out and the distances of 3/12: the tables are
--- computed.
+-- The worked examples of document 01 hold, and so do the numbers that it works out, the distances of 3/12 and the slow hands of
+-- 4/12: the tables are computed.
 use mathlib.Core.Path.{refl}
 use Rattle.rules.specs.Numbers.{in-range, up, A, B, FJ, FL, D, X, W}
 use Rattle.rules.specs.Layout.{table, code-point}
@@ -8,7 +8,7 @@ use Rattle.rules.specs.OneEvent.{mark, same-thumb, same-key, second-char
 use Rattle.rules.specs.ZeroDelay.{character, sent}
 use Rattle.rules.specs.GivenBack.{input, judge, step}
 use Rattle.rules.specs.Distance.{asking}
-use Rattle.rules.specs.Examples.{ExamplesHold, SlipsHold, DistancesHold, NumbersHold}
+use Rattle.rules.specs.Examples.{ExamplesHold, SlipsHold, SlowHandsHold, DistancesHold, NumbersHold}
 
 pub examples-hold : ExamplesHold
 unfolding step judge input well-formed in-range one-event settle mark same-thumb same-key second-character-takes-thumb second-thumb-takes-character short-overlap sent character code-point table up A B FJ FL
@@ -17,6 +17,10 @@ examples-hold = refl
 pub slips-hold : SlipsHold
 unfolding step judge input well-formed in-range one-event settle mark same-thumb same-key second-character-takes-thumb second-thumb-takes-character short-overlap sent character code-point table up A B FJ FL
 slips-hold = refl
+
+pub slow-hands-hold : SlowHandsHold
+unfolding step judge input well-formed in-range one-event settle mark same-thumb same-key second-character-takes-thumb second-thumb-takes-character short-overlap sent character code-point table up A B FJ FL
+slow-hands-hold = refl
 
 pub distances-hold : DistancesHold
 unfolding asking step judge input well-formed in-range one-event settle mark same-thumb same-key second-character-takes-thumb second-thumb-takes-character short-overlap sent character code-point table up A B FJ FL

@@ -1,5 +1,5 @@
 -- Document 01, "Keystrokes to try": the examples P1 to P11 as one table (P8 as 1/12 of document 02 has it), the numbers that
--- 01 works out as another, and distances of 3/12 as a third. The proofs are in proofs/Examples.antt.
+-- 01 works out as another, distances of 3/12 and the slow hands of 4/12 as two more. The proofs are in proofs/Examples.antt.
 use Prim.Native.Nat.{ℕ, _+_}
 use Prim.Native.Char.{code}
 use Prim.Native.String.{String}
@@ -104,6 +104,9 @@ with-J-60 = settings 100 60 50 0
 abbrev pub with-J-70 : Settings
 with-J-70 = settings 100 70 50 0
 
+abbrev pub slow : Settings
+slow = settings 1000 50 50 0
+
 abbrev pub nothing : Line
 nothing = text []
 
@@ -132,6 +135,13 @@ abbrev pub slips : List Example
 slips =
     example "late first" usual (down 21 0 ∷ thumb Right 100 ∷ tick 200 ∷ text (か ∷ []) ∷ []) ∷
     example "rounded up" with-J-70 (down 21 0 ∷ thumb Right 10 ∷ tick 33 ∷ nothing ∷ tick 34 ∷ text (が ∷ []) ∷ []) ∷ []
+
+-- 4/12: with a large T the short-overlap time decides a plain chord. 399 ms are short, 400 are not.
+abbrev pub slow-hands : List Example
+slow-hands =
+    example "an overlap of 399" slow
+    (down 21 0 ∷ thumb Right 500 ∷ up 21 899 ∷ text (か ∷ []) ∷ rests (S3 Right (at 500)) ∷ []) ∷
+    example "an overlap of 400" slow (down 21 0 ∷ thumb Right 500 ∷ up 21 900 ∷ text (が ∷ []) ∷ rests S1 ∷ []) ∷ []
 
 -- The answers to one that asks. A machine whose settings are out of range is not well formed.
 abbrev pub to-wait : ℕ → Asking
@@ -185,6 +195,9 @@ ExamplesHold = map observed examples ≡ examples
 abbrev pub SlipsHold : Type 0
 SlipsHold = map observed slips ≡ slips
 
+abbrev pub SlowHandsHold : Type 0
+SlowHandsHold = map observed slow-hands ≡ slow-hands
+
 abbrev pub DistancesHold : Type 0
 DistancesHold = map observed distances ≡ distances
 
@@ -210,6 +223,7 @@ numbers =
     worked with-J-60 (A-is 67 ∷ FJ-is 30 45 ∷ []) ∷
     worked with-J-70 (FJ-is 10 24 ∷ []) ∷
     worked usual (W-is 200 ∷ []) ∷
+    worked slow (W-is 2_000 ∷ []) ∷
     worked (settings 200 99 99 0) (A-is 3 ∷ B-is 3 ∷ D-is 297 ∷ W-is 29_700 ∷ []) ∷ []
 
 abbrev pub computed-number : Settings → Number → Number

@@ -15,12 +15,12 @@ keys = 31
 abbrev pub largest-stamp : ℕ
 largest-stamp = 1_000_000_000_000
 
--- the bounds of T, in milliseconds
+-- the bounds of T, in milliseconds (the upper one by 4/12 of document 02)
 abbrev pub T-least : ℕ
 T-least = 50
 
 abbrev pub T-most : ℕ
-T-most = 200
+T-most = 1_000
 
 -- the bounds of J and L, in percent
 abbrev pub percent-least : ℕ
@@ -33,7 +33,7 @@ percent-most = 99
 abbrev pub within : ℕ → ℕ → ℕ → Bool
 within least most n = leb least n && leb n most
 
--- T 50 to 200; J and L 1 to 99; solo 0 or 1
+-- T 50 to 1,000; J and L 1 to 99; solo 0 or 1
 unfoldable pub in-range : Settings → Bool
 in-range s =
     within T-least T-most (s .t)

@@ -91,7 +91,7 @@ impl Settings {
     // The bounds of T, and of J and L.
     pub const T_LEAST: u16 = 50;
 
-    pub const T_MOST: u16 = 200;
+    pub const T_MOST: u16 = 1000;
 
     pub const PERCENT_LEAST: u8 = 1;
 

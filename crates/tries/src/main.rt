@@ -200,8 +200,8 @@ fn open(t: u16, j: u8, l: u8, solo: u8) -> Machine {
 fn settings() {
     open(49, 50, 50, 0);
     open(50, 50, 50, 0);
-    open(200, 50, 50, 0);
-    open(201, 50, 50, 0);
+    open(1000, 50, 50, 0);
+    open(1001, 50, 50, 0);
     open(100, 0, 50, 0);
     open(100, 1, 50, 0);
     open(100, 99, 50, 0);
@@ -241,6 +241,15 @@ fn late_first() {
     event(m, 6, 0, 200);
 }
 
+// T=1000: the short-overlap time decides a plain chord. Up at 899 gives か, up at 900 が.
+fn slow_hands() {
+    let m = open(1000, 50, 50, 0);
+    let m = event(m, 1, 21, 0);
+    let m = event(m, 3, 1, 500);
+    event(m, 2, 21, 899);
+    event(m, 2, 21, 900);
+}
+
 // 21@0, and how far its deadline lies: at its stamp, before it, and late.
 fn overdue() {
     let m = open(100, 50, 50, 0);
@@ -264,5 +273,6 @@ fn main() {
     settings();
     refusals();
     late_first();
+    slow_hands();
     overdue();
 }
