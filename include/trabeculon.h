@@ -18,7 +18,7 @@ extern "C" {
  * What reading a log answers.
  *
  * number   0  every record was accepted
- *          1  settings out of range (T 50 to 200, J and L 1 to 99, solo 0 or 1)
+ *          1  settings out of range (T 50 to 1,000, J and L 1 to 99, solo 0 or 1)
  *          2  state not well formed; never given here, since the reader
  *             opens its own state
  *          3  kind or key not allowed
@@ -77,7 +77,8 @@ trabeculon_answer trabeculon_read_log(const uint8_t *log, size_t log_len,
  * What writing a drill answers.
  *
  * number    0   the whole log was written
- *           1   settings out of range (T 50 to 200, J and L 1 to 99, solo 0 or 1)
+ *           1   settings out of range (T 50 to 1,000, J and L 1 to 99, solo 0
+ *               or 1)
  *           4   the character's stamp, 250 times its position, is above the
  *               largest, 1,000,000,000,000; so position 4,000,000,001 at the
  *               earliest
@@ -216,7 +217,7 @@ typedef struct {
  * machine  beside 0: a fresh machine with these settings, state 1 and all else 0.
  *          Beside 1: every number is 0, which names no machine.
  * number   0  opened
- *          1  settings out of range (T 50 to 200, J and L 1 to 99, solo 0 or 1)
+ *          1  settings out of range (T 50 to 1,000, J and L 1 to 99, solo 0 or 1)
  */
 typedef struct {
     trabeculon_machine machine;

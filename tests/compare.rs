@@ -17,6 +17,7 @@ use trabeculon_model::drill::{WriterSlip, WRITER_SLIPS};
 use trabeculon_model::generate::{every_place, random_case, Case};
 use trabeculon_model::log::{read_log_bytes_with, Answer};
 use trabeculon_model::model::{Slip, SLIPS};
+use trabeculon_model::overlaps::Overlaps;
 use trabeculon_model::program::hex;
 use trabeculon_model::random::Random;
 use trabeculon_model::tally::Tally;
@@ -95,14 +96,18 @@ fn compare_reader(arguments: &Arguments) -> Result<(), String> {
     fixed.print("logs damaged at every place");
 
     let mut tally = Tally::default();
+    let mut overlaps = Overlaps::default();
     for index in 0..arguments.count {
         let case = random_case(&mut random);
         let answer = compare(&mut random, slip, &case)
             .map_err(|what| format!("log {index} of seed {}: {what}", arguments.seed))?;
         tally.add(answer.number.into());
+        overlaps.add_log(&case.log[..answer.offset as usize]);
     }
     tally.print(&format!("random logs of seed {}", arguments.seed));
-    tally.complete(&READER_NUMBERS, arguments.count)
+    overlaps.print();
+    tally.complete(&READER_NUMBERS, arguments.count)?;
+    overlaps.complete(arguments.count)
 }
 
 /// Reads one log both ways into runs that hold the same bytes before.

@@ -73,10 +73,13 @@ fn check_fixed(programs: &Programs) -> Result<(), String> {
     {
         compare(programs, None, line)?;
     }
-    let right = [(50, 1, 99, 1), (200, 99, 1, 0), (100, 50, 50, 1)];
-    let wrong = [(49, 50, 50, 0), (201, 50, 50, 0), (100, 0, 50, 0), (100, 100, 50, 0)];
+    let right = [(50, 1, 99, 1), (1_000, 99, 1, 0), (1_000, 1, 99, 1), (100, 50, 50, 1)];
+    let slower = [(200, 50, 50, 0), (201, 50, 50, 0), (256, 50, 50, 1), (999, 50, 50, 1)];
+    let wrong = [(49, 50, 50, 0), (1_001, 50, 50, 0), (100, 0, 50, 0), (100, 100, 50, 0)];
     let more = [(100, 50, 0, 0), (100, 50, 100, 0), (100, 50, 50, 2), (0, 0, 0, 255)];
-    for settings in right.into_iter().chain(wrong).chain(more) {
+    let far = [(1_074, 50, 50, 0), (65_535, 50, 50, 0)];
+    let accepted = right.into_iter().chain(slower);
+    for settings in accepted.chain(wrong).chain(more).chain(far) {
         compare(programs, Some(settings), &all)?;
         compare(programs, Some(settings), "さx\n")?;
     }

@@ -20,6 +20,7 @@ use trabeculon_model::live::{
 };
 use trabeculon_model::log::{word, RawSettings};
 use trabeculon_model::model::{shown, Event, KEYS, LARGEST_STAMP, SLIPS};
+use trabeculon_model::overlaps::Overlaps;
 use trabeculon_model::random::Random;
 use trabeculon_model::states::{every_state, random_event, random_stamp, random_state};
 use trabeculon_model::tally::Tally;
@@ -105,8 +106,8 @@ fn differ<T: Debug>(what: &str, library: T, model: T) -> String {
     format!("the answers differ\n{what}\nlibrary {library:?}\nmodel   {model:?}")
 }
 
-fn compare_open(raw: RawSettings) -> Result<Opened, String> {
-    let (library, model) = (library_open(raw), open(raw));
+fn compare_open(wrong: Wrong, raw: RawSettings) -> Result<Opened, String> {
+    let (library, model) = (library_open(raw), open(wrong, raw));
     if library != model {
         return Err(differ(&format!("open, T J L solo {raw:?}"), library, model));
     }
@@ -125,6 +126,7 @@ struct Compared {
     before: Tally<&'static str>,
     /// After the accepted steps.
     after: Tally<&'static str>,
+    overlaps: Overlaps,
     distances: Tally,
     waits: Tally<&'static str>,
 }
@@ -140,6 +142,9 @@ impl Compared {
         self.before.add(STATES[if model.number == 2 { 0 } else { usize::from(flat.state) }]);
         if model.number == 0 {
             self.after.add(STATES[usize::from(model.machine.state)]);
+        }
+        if let Ok(machine) = flat.machine(Wrong::default()) {
+            self.overlaps.add(&machine, event);
         }
         Ok(library)
     }
@@ -162,6 +167,7 @@ impl Compared {
         self.steps.print(&format!("steps {what}"));
         println!("  states before{}", self.before.times());
         println!("  states after the accepted ones{}", self.after.times());
+        self.overlaps.print();
         self.distances.print(&format!("distances {what}"));
         println!("  answered{}", self.waits.times());
     }
@@ -193,7 +199,7 @@ fn compare_openings(arguments: &Arguments) -> Result<(), String> {
         _ => wrong_settings(&mut random),
     });
     for raw in every_t.chain(every_byte).chain(boundary_settings()).chain(random_ones) {
-        tally.add(compare_open(raw)?.number);
+        tally.add(compare_open(arguments.wrong, raw)?.number);
     }
     tally.print("openings");
     Ok(())
@@ -221,6 +227,7 @@ fn compare_random(arguments: &Arguments) -> Result<(), String> {
             .map_err(|what| format!("state {index} of seed {}: {what}", arguments.seed))?;
     }
     compared.print(&format!("from random states of seed {}", arguments.seed));
+    compared.overlaps.complete(arguments.count)?;
     compared.complete(&STEP_NUMBERS, &DISTANCE_NUMBERS, arguments.count)
 }
 
@@ -250,6 +257,7 @@ fn compare_walks(arguments: &Arguments) -> Result<(), String> {
             .map_err(|what| format!("walk {index} of seed {}: {what}", arguments.seed))?;
     }
     compared.print(&format!("in {walks} walks of seed {}", arguments.seed));
+    compared.overlaps.complete(walks)?;
     compared.complete(&WALK_STEP_NUMBERS, &WALK_DISTANCE_NUMBERS, arguments.count)
 }
 
@@ -262,7 +270,7 @@ struct Host {
 
 fn compare_walk(random: &mut Random, wrong: Wrong, compared: &mut Compared) -> Result<(), String> {
     let raw = right_settings(random);
-    let opened = compare_open(raw)?;
+    let opened = compare_open(wrong, raw)?;
     let mut host = Host { machine: opened.machine, line: vec![], screen: vec![] };
     let keys = [0; 3].map(|_| random.below(KEYS.into()) as u8);
     let count = random.pick(&[10, 30, 30, 60, 200]);
@@ -302,7 +310,7 @@ fn walk_on(
     let Flat { last, .. } = host.machine;
     let now = compared.distance(wrong, &host.machine, last)?;
     let due = last.saturating_add_signed(now.milliseconds);
-    let far = last.saturating_add(random.below(30_000));
+    let far = last.saturating_add(random.below(150_000));
     let out = random.pick(&[last.wrapping_sub(1), LARGEST_STAMP, LARGEST_STAMP + 1, u64::MAX]);
     for stamp in [due.saturating_sub(1), due, due.saturating_add(1), far, out] {
         compared.distance(wrong, &host.machine, stamp)?;

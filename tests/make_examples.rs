@@ -25,8 +25,9 @@ struct Example {
 }
 
 const USUAL: (u16, u8, u8, u8) = (100, 50, 50, 0);
+const SLOW: (u16, u8, u8, u8) = (1_000, 50, 50, 0);
 
-const EXAMPLES: [Example; 5] = [
+const EXAMPLES: [Example; 7] = [
     Example {
         name: "saigai",
         settings: USUAL,
@@ -127,6 +128,49 @@ T=100, J=60, L=50, solo 0.
 play prints がさ, and nothing waits.
 ",
         expected: "がさ\nwaiting 0\n",
+    },
+    Example {
+        name: "slow-plain",
+        settings: SLOW,
+        keystrokes: "21@0 R@500 21up@899",
+        damage: None,
+        line: None,
+        text: "\
+Request 4/12's keystrokes: the thumb comes 500 ms behind the character, and 399 ms
+of overlap still count as short. 47 bytes, T=1000, J=L=50, solo 0.
+
+   at  stamp  typed                what happens
+    0         settings
+    8      0  key 21 (か) down     か waits until 1000
+   21    500  right thumb down     か and the thumb wait until 1000
+   34    899  key 21 up            399 ms of overlap after 500 ms alone: か is
+                                   committed plain, the thumb stays
+
+play prints か, and nothing waits.
+",
+        expected: "か\nwaiting 0\n",
+    },
+    Example {
+        name: "slow-chord",
+        settings: SLOW,
+        keystrokes: "21@0 R@500 21up@900",
+        damage: None,
+        line: None,
+        text: "\
+The log of slow-plain with key 21 released 1 ms later: from 400 ms of overlap on it
+is a chord. 47 bytes, T=1000, J=L=50, solo 0.
+
+   at  stamp  typed                what happens
+    0         settings
+    8      0  key 21 (か) down     か waits until 1000
+   21    500  right thumb down     か and the thumb wait until 1000
+   34    900  key 21 up            400 ms of overlap after 500 ms alone: under
+                                   half of the whole, but not under 400 ms, so
+                                   the chord が is committed
+
+play prints が, and nothing waits.
+",
+        expected: "が\nwaiting 0\n",
     },
     Example {
         name: "drill",

@@ -1,10 +1,10 @@
 /*
  * Drives a live keyboard through include/trabeculon.h as a C host would: document
- * 01's P1, P4 and P9 event by event, with a screen on which a backspace takes the
- * last sign back, and the distance to the deadline after each event. Then every
- * refusal. Checks every number of every answer. Prints what was sent, a backspace
- * as <-, and the screen after each event, and one line per check; exits 1 if one
- * failed.
+ * 01's P1, P4 and P9 and request 4/12's keystrokes (slow) event by event, with a
+ * screen on which a backspace takes the last sign back, and the distance to the
+ * deadline after each event. Then every refusal. Checks every number of every
+ * answer. Prints what was sent, a backspace as <-, and the screen after each event,
+ * and one line per check; exits 1 if one failed.
  */
 #include "trabeculon.h"
 
@@ -105,7 +105,7 @@ static void show(host *h, trabeculon_stepped s) {
     add(&h->line, s.second);
 }
 
-/* ---- 01's keystrokes ---- */
+/* ---- The papers' keystrokes ---- */
 
 /* An event, and what is right after it. */
 typedef struct {
@@ -151,16 +151,46 @@ static const line P9[] = {
      {.state = 1}, NO_DEADLINE},
 };
 
-static trabeculon_machine with_settings(trabeculon_machine m, uint8_t solo) {
-    m.t = 100;
+static const line SLOW_899[] = {
+    {"slow, 21@0", CHARACTER_DOWN, 21, 0, 0, {0, 0}, 0, {KA, 0, 0},
+     {.state = 2, .key = 21, .m = 0}, 1000},
+    {"slow, R@500", THUMB_DOWN, 1, 500, 0, {0, 0}, 0, {0, 0, 0},
+     {.state = 4, .key = 21, .m = 0, .thumb = 1, .o = 500}, 500},
+    {"slow, 21 up@899", CHARACTER_UP, 21, 899, 1, {KA, 0}, 0, {0, 0, 0},
+     {.state = 3, .thumb = 1, .o = 500}, NO_DEADLINE},
+};
+
+static const line SLOW_900[] = {
+    {"slow, 21@0", CHARACTER_DOWN, 21, 0, 0, {0, 0}, 0, {KA, 0, 0},
+     {.state = 2, .key = 21, .m = 0}, 1000},
+    {"slow, R@500", THUMB_DOWN, 1, 500, 0, {0, 0}, 0, {0, 0, 0},
+     {.state = 4, .key = 21, .m = 0, .thumb = 1, .o = 500}, 500},
+    {"slow, 21 up@900", CHARACTER_UP, 21, 900, 1, {GA, 0}, 1, {GA, 0, 0},
+     {.state = 1}, NO_DEADLINE},
+};
+
+/* With solo 1 the thumb that stays has a deadline, by its old stamp. */
+static const line SLOW_SOLO[] = {
+    {"slow, 21@0", CHARACTER_DOWN, 21, 0, 0, {0, 0}, 0, {KA, 0, 0},
+     {.state = 2, .key = 21, .m = 0}, 1000},
+    {"slow, R@500", THUMB_DOWN, 1, 500, 0, {0, 0}, 0, {0, 0, 0},
+     {.state = 4, .key = 21, .m = 0, .thumb = 1, .o = 500}, 500},
+    {"slow, 21 up@899", CHARACTER_UP, 21, 899, 1, {KA, 0}, 0, {0, 0, 0},
+     {.state = 3, .thumb = 1, .o = 500}, 601},
+    {"slow, tick 1500", TICK, 0, 1500, 1, {RIGHT_MARK, 0}, 0, {RIGHT_MARK, 0, 0},
+     {.state = 1}, NO_DEADLINE},
+};
+
+static trabeculon_machine with_settings(trabeculon_machine m, uint16_t t, uint8_t solo) {
+    m.t = t;
     m.j = 50;
     m.l = 50;
     m.solo = solo;
     return m;
 }
 
-static trabeculon_machine fresh(uint8_t solo) {
-    return trabeculon_open(100, 50, 50, solo).machine;
+static trabeculon_machine fresh(uint16_t t, uint8_t solo) {
+    return trabeculon_open(t, 50, 50, solo).machine;
 }
 
 static void check_distance(const char *name, trabeculon_machine machine, uint64_t stamp,
@@ -174,8 +204,8 @@ static void check_distance(const char *name, trabeculon_machine machine, uint64_
     }
 }
 
-static void check_line(host *h, const line *want, uint8_t solo) {
-    trabeculon_machine after = with_settings(want->machine, solo);
+static void check_line(host *h, const line *want, uint16_t t, uint8_t solo) {
+    trabeculon_machine after = with_settings(want->machine, t, solo);
     after.last = want->stamp;
 
     trabeculon_stepped got = trabeculon_step(h->machine, want->kind, want->key, want->stamp);
@@ -183,7 +213,7 @@ static void check_line(host *h, const line *want, uint8_t solo) {
     show(h, got);
     trabeculon_asked asked = trabeculon_distance(h->machine, want->stamp);
 
-    printf("%-14s", want->name);
+    printf("%-15s", want->name);
     print_run(" sent: ", &h->sent);
     print_run("  screen: ", &h->screen);
     if (asked.deadline == 1) {
@@ -201,12 +231,12 @@ static void check_line(host *h, const line *want, uint8_t solo) {
     check_distance(want->name, h->machine, want->stamp, want->distance);
 }
 
-/* One of 01's runs; sent, screen and committed line end with 0. */
-static void check_run(const char *name, const line *lines, size_t count, uint8_t solo,
-                      const uint16_t *sent, const uint16_t *screen) {
-    host h = {.machine = fresh(solo)};
+/* One of the papers' runs; sent, screen and committed line end with 0. */
+static void check_run(const char *name, const line *lines, size_t count, uint16_t t,
+                      uint8_t solo, const uint16_t *sent, const uint16_t *screen) {
+    host h = {.machine = fresh(t, solo)};
     for (size_t i = 0; i < count; i++) {
-        check_line(&h, &lines[i], solo);
+        check_line(&h, &lines[i], t, solo);
     }
     report(name, "all that was sent", same_run(&h.sent, sent));
     report(name, "the screen in the end", same_run(&h.screen, screen));
@@ -214,11 +244,18 @@ static void check_run(const char *name, const line *lines, size_t count, uint8_t
 }
 
 static void check_runs(void) {
-    check_run("P1", P1, sizeof P1 / sizeof P1[0], 0, (uint16_t[]){KA, 0}, (uint16_t[]){KA, 0});
-    check_run("P4", P4, sizeof P4 / sizeof P4[0], 0, (uint16_t[]){KA, BACKSPACE, GA, 0},
+    check_run("P1", P1, sizeof P1 / sizeof P1[0], 100, 0, (uint16_t[]){KA, 0},
+              (uint16_t[]){KA, 0});
+    check_run("P4", P4, sizeof P4 / sizeof P4[0], 100, 0, (uint16_t[]){KA, BACKSPACE, GA, 0},
               (uint16_t[]){GA, 0});
-    check_run("P9", P9, sizeof P9 / sizeof P9[0], 1,
+    check_run("P9", P9, sizeof P9 / sizeof P9[0], 100, 1,
               (uint16_t[]){GA, BACKSPACE, RIGHT_MARK, KA, 0}, (uint16_t[]){RIGHT_MARK, KA, 0});
+    check_run("slow, up@899", SLOW_899, sizeof SLOW_899 / sizeof SLOW_899[0], 1000, 0,
+              (uint16_t[]){KA, 0}, (uint16_t[]){KA, 0});
+    check_run("slow, up@900", SLOW_900, sizeof SLOW_900 / sizeof SLOW_900[0], 1000, 0,
+              (uint16_t[]){KA, BACKSPACE, GA, 0}, (uint16_t[]){GA, 0});
+    check_run("slow, solo 1", SLOW_SOLO, sizeof SLOW_SOLO / sizeof SLOW_SOLO[0], 1000, 1,
+              (uint16_t[]){KA, RIGHT_MARK, 0}, (uint16_t[]){KA, RIGHT_MARK, 0});
 }
 
 /* ---- Opening ---- */
@@ -234,10 +271,14 @@ static void check_open(const char *name, uint16_t t, uint8_t j, uint8_t l, uint8
 
 static void check_opening(void) {
     check_open("open, the smallest", 50, 1, 1, 0, 0);
-    check_open("open, the largest", 200, 99, 99, 1, 0);
+    check_open("open, the largest", 1000, 99, 99, 1, 0);
+    check_open("open, T 200", 200, 50, 50, 0, 0);
+    check_open("open, T 201", 201, 50, 50, 0, 0);
+    check_open("open, T 256", 256, 50, 50, 0, 0);
     check_open("open, T 49", 49, 50, 50, 0, 1);
-    check_open("open, T 201", 201, 50, 50, 0, 1);
-    check_open("open, T 256 + 100", 356, 50, 50, 0, 1);
+    check_open("open, T 1001", 1001, 50, 50, 0, 1);
+    check_open("open, T 1024 + 50", 1074, 50, 50, 0, 1);
+    check_open("open, T 65535", 65535, 50, 50, 0, 1);
     check_open("open, J 0", 100, 0, 50, 0, 1);
     check_open("open, J 100", 100, 100, 50, 0, 1);
     check_open("open, L 0", 100, 50, 0, 0, 1);
@@ -307,6 +348,11 @@ static void check_states(void) {
     m.last = LARGEST + 1;
     check_no_machine("last stamp too large", m);
     m = WAITING;
+    m.t = 1001;
+    check_no_machine("T 1001", m);
+    m.t = 49;
+    check_no_machine("T 49", m);
+    m = WAITING;
     m.solo = 2;
     check_no_machine("solo 2", m);
     m = WAITING;
@@ -340,15 +386,18 @@ static void check_events(void) {
 /* No stamp is both above the largest and before the last one of a well-formed
  * machine; so 4 and 5 are tried one by one, also with the largest last stamp. */
 static void check_distances(void) {
-    trabeculon_machine end = WAITING;
+    trabeculon_machine end = WAITING, slow = WAITING;
     end.last = LARGEST;
+    slow.t = 1000;
+    slow.j = 1;
     check_distance("still to wait", WAITING, 1000, 100);
     check_distance("one millisecond to wait", WAITING, 1099, 1);
     check_distance("due now", WAITING, 1100, 0);
     check_distance("one millisecond overdue", WAITING, 1101, -1);
     check_distance("long overdue", WAITING, LARGEST, INT64_C(1100) - (int64_t)LARGEST);
-    check_distance("fresh, at 0", fresh(1), 0, NO_DEADLINE);
-    check_distance("fresh, at the largest", fresh(1), LARGEST, NO_DEADLINE);
+    check_distance("fresh, at 0", fresh(100, 1), 0, NO_DEADLINE);
+    check_distance("fresh, at the largest", fresh(100, 1), LARGEST, NO_DEADLINE);
+    check_distance("the longest wait of a lone key", slow, 1000, 99000);
     check_not_asked("one above the largest", WAITING, LARGEST + 1, 4);
     check_not_asked("far above the largest", WAITING, UINT64_MAX, 4);
     check_not_asked("one before the last", WAITING, 999, 5);

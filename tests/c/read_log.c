@@ -41,6 +41,18 @@ static const uint8_t TWO_AT_ONCE[60] = {
 };
 static const uint8_t TWO_WORDS[4] = {0x00, 0x02, 0x30, 0x4B};
 
+/* Request 4/12: key 21 goes up with 399 ms of overlap; the last byte 132 makes it
+ * 400 ms. */
+#define SLOW_LEN 47
+static const uint8_t SLOW[SLOW_LEN] = {
+    1, 0, 5,  3, 232, 50, 50, 0,                 /* T=1000, J=L=50, solo 0 */
+    2, 0, 10, 1, 21, 0, 0, 0, 0, 0, 0, 0, 0,     /* at   8: 21 down @0 */
+    2, 0, 10, 3, 1, 0, 0, 0, 0, 0, 0, 1, 244,    /* at  21: right thumb down @500 */
+    2, 0, 10, 2, 21, 0, 0, 0, 0, 0, 0, 3, 131,   /* at  34: 21 up @899 */
+};
+static const uint8_t KA[2] = {0x30, 0x4B};
+static const uint8_t GA[2] = {0x30, 0x4C};
+
 _Static_assert(sizeof(trabeculon_answer) == 24, "the answer has no padding");
 
 static int failures = 0;
@@ -102,6 +114,24 @@ static void check_damaged(const char *name, size_t place, uint8_t value,
     check_log(name, log, LOG_LEN, WORDS, 32, want);
 }
 
+/* The example with another T. */
+static void check_t(const char *name, unsigned t, trabeculon_answer want) {
+    uint8_t log[LOG_LEN];
+    memcpy(log, EXAMPLE, LOG_LEN);
+    log[3] = (uint8_t)(t >> 8);
+    log[4] = (uint8_t)(t & 0xFF);
+    check_log(name, log, LOG_LEN, WORDS, 32, want);
+}
+
+/* The log of slower hands, its last stamp ending with this byte. */
+static void check_slow(const char *name, uint8_t last_byte, const uint8_t *words,
+                       trabeculon_answer want) {
+    uint8_t log[SLOW_LEN];
+    memcpy(log, SLOW, SLOW_LEN);
+    log[SLOW_LEN - 1] = last_byte;
+    check_log(name, log, SLOW_LEN, words, 32, want);
+}
+
 static trabeculon_answer answer(uint32_t number, uint64_t words, uint64_t offset,
                                 uint32_t waiting) {
     trabeculon_answer a = {number, waiting, words, offset};
@@ -123,6 +153,17 @@ int main(void) {
     check_damaged("tag damaged", 73, 9, answer(7, 2, 73, 1));
     check_damaged("length damaged", 75, 11, answer(7, 2, 73, 1));
     check_damaged("settings damaged", 4, 49, answer(1, 0, 0, 0));
+    check_t("T 49", 49, answer(1, 0, 0, 0));
+    check_t("T 50", 50, answer(0, 4, 138, 0));
+    /* From here on the last character still waits at the tick. */
+    check_t("T 200", 200, answer(0, 3, 138, 1));
+    check_t("T 201", 201, answer(0, 3, 138, 1));
+    check_t("T 1000", 1000, answer(0, 3, 138, 1));
+    check_t("T 1001", 1001, answer(1, 0, 0, 0));
+    check_t("T 1024 + 50", 1074, answer(1, 0, 0, 0));
+    check_t("T 65535", 65535, answer(1, 0, 0, 0));
+    check_slow("T 1000, up @899", 131, KA, answer(0, 1, 47, 0));
+    check_slow("T 1000, up @900", 132, GA, answer(0, 1, 47, 0));
     check_damaged("key damaged", 77, 2, answer(3, 2, 73, 1));
     check_damaged("stamp too large", 78, 1, answer(4, 2, 73, 1));
     check_damaged("stamp too early", 85, 199, answer(5, 2, 73, 1));

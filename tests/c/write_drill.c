@@ -15,10 +15,10 @@
 #define MOST_WORDS 12
 #define UNTOUCHED 0xA5
 
-/* sa (plain) and ga (right thumb) at T=200, J=1, L=99, solo 1. */
+/* sa (plain) and ga (right thumb) at T=1000, J=1, L=99, solo 1. */
 static const uint16_t SAGA[2] = {0x3055, 0x304C};
 static const uint8_t SAGA_LOG[99] = {
-    1, 0, 5,  0, 200, 1, 99, 1,                  /* settings */
+    1, 0, 5,  3, 232, 1, 99, 1,                  /* settings */
     2, 0, 10, 1, 24, 0, 0, 0, 0, 0, 0, 0, 0,     /* 24 down @0 */
     2, 0, 10, 2, 24, 0, 0, 0, 0, 0, 0, 0, 0,     /* 24 up @0 */
     2, 0, 10, 1, 21, 0, 0, 0, 0, 0, 0, 0, 250,   /* 21 down @250 */
@@ -113,8 +113,8 @@ static void check_read_back(const char *name, size_t log_len, const uint16_t *li
 }
 
 static void check_written(void) {
-    setup ample = {200, 1, 99, 1, 500};
-    setup exact = {200, 1, 99, 1, sizeof SAGA_LOG};
+    setup ample = {1000, 1, 99, 1, 500};
+    setup exact = {1000, 1, 99, 1, sizeof SAGA_LOG};
     check("two characters", ample, SAGA, 2, drill(0, 99, 2));
     report("two characters", "log", memcmp(run, SAGA_LOG, sizeof SAGA_LOG) == 0);
     check_read_back("two characters", 99, SAGA, 2);
@@ -123,15 +123,32 @@ static void check_written(void) {
 
     check("twelve characters", (setup){50, 99, 1, 0, 600}, MIXED, 12, drill(0, MIXED_BYTES, 12));
     check_read_back("twelve characters", MIXED_BYTES, MIXED, 12);
-    check("no character", (setup){200, 1, 99, 1, 8}, SAGA, 0, drill(0, 8, 0));
+    check("no character", (setup){1000, 1, 99, 1, 8}, SAGA, 0, drill(0, 8, 0));
     report("no character", "log", memcmp(run, SAGA_LOG, 8) == 0);
     check_read_back("no character", 8, SAGA, 0);
 }
 
+/* Written with this T, which stands in the log, and read back. */
+static void check_t(const char *name, uint16_t t) {
+    uint8_t log[sizeof SAGA_LOG];
+    memcpy(log, SAGA_LOG, sizeof log);
+    log[3] = (uint8_t)(t >> 8);
+    log[4] = (uint8_t)(t & 0xFF);
+    check(name, (setup){t, 1, 99, 1, 500}, SAGA, 2, drill(0, 99, 2));
+    report(name, "log", memcmp(run, log, sizeof log) == 0);
+    check_read_back(name, 99, SAGA, 2);
+}
+
 static void check_settings(void) {
+    check_t("T 50", 50);
+    check_t("T 200", 200);
+    check_t("T 201", 201);
+    check_t("T 256", 256);
+    check_t("T 1000", 1000);
     check("T 49", (setup){49, 50, 50, 0, 500}, SAGA, 2, drill(1, 0, 0));
-    check("T 201", (setup){201, 50, 50, 0, 500}, SAGA, 2, drill(1, 0, 0));
-    check("T 256 + 100", (setup){356, 50, 50, 0, 500}, SAGA, 2, drill(1, 0, 0));
+    check("T 1001", (setup){1001, 50, 50, 0, 500}, SAGA, 2, drill(1, 0, 0));
+    check("T 1024 + 50", (setup){1074, 50, 50, 0, 500}, SAGA, 2, drill(1, 0, 0));
+    check("T 65535", (setup){65535, 50, 50, 0, 500}, SAGA, 2, drill(1, 0, 0));
     check("J 0", (setup){100, 0, 50, 0, 500}, SAGA, 2, drill(1, 0, 0));
     check("J 100", (setup){100, 100, 50, 0, 500}, SAGA, 2, drill(1, 0, 0));
     check("L 0", (setup){100, 50, 0, 0, 500}, SAGA, 2, drill(1, 0, 0));
@@ -156,7 +173,7 @@ static void check_order(void) {
     setup none = {100, 50, 50, 0, 0};
     setup wrong = {49, 50, 50, 0, 0};
     uint16_t line[2] = {0x3055, 0x0041};
-    check("one byte too little", (setup){200, 1, 99, 1, 98}, SAGA, 2, drill(8, 0, 2));
+    check("one byte too little", (setup){1000, 1, 99, 1, 98}, SAGA, 2, drill(8, 0, 2));
     check("no room", none, SAGA, 2, drill(8, 0, 2));
     check("no character, seven bytes", (setup){100, 50, 50, 0, 7}, SAGA, 0, drill(8, 0, 0));
     check("on no face", usual, line, 2, drill(10, 0, 1));

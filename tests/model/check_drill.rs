@@ -47,10 +47,10 @@ fn words(text: &str) -> Vec<u16> {
     text.encode_utf16().collect()
 }
 
-/// The drill of さが, every byte by hand.
+/// The drill of さが at T=1000, J=1, L=99, solo 1, every byte by hand.
 #[rustfmt::skip]
 const SAGA: [u8; 99] = [
-    1, 0, 5,  0, 200, 1, 99, 1,
+    1, 0, 5,  3, 232, 1, 99, 1,
     2, 0, 10, 1, 24, 0, 0, 0, 0, 0, 0, 0, 0,
     2, 0, 10, 2, 24, 0, 0, 0, 0, 0, 0, 0, 0,
     2, 0, 10, 1, 21, 0, 0, 0, 0, 0, 0, 0, 250,
@@ -61,7 +61,7 @@ const SAGA: [u8; 99] = [
 ];
 
 fn check_log() -> Result<(), String> {
-    let got = write_drill((200, 1, 99, 1), &words("さが"), 99);
+    let got = write_drill((1_000, 1, 99, 1), &words("さが"), 99);
     expect("さが", got, (answered(0, 99, 2), SAGA.to_vec()))?;
     let got = write_drill(USUAL_SETTINGS, &[], 8);
     expect("no character", got, (answered(0, 8, 0), vec![1, 0, 5, 0, 100, 50, 50, 0]))?;
@@ -72,6 +72,8 @@ fn check_log() -> Result<(), String> {
 fn check_refusals() -> Result<(), String> {
     let tries = [
         ((49, 50, 50, 0), "さx", 0, answered(1, 0, 0)),
+        ((1_001, 50, 50, 0), "さ", 500, answered(1, 0, 0)),
+        ((65_535, 50, 50, 0), "さ", 500, answered(1, 0, 0)),
         ((100, 50, 50, 2), "", 0, answered(1, 0, 0)),
         (USUAL_SETTINGS, "x", 0, answered(10, 0, 0)),
         (USUAL_SETTINGS, "さがx", 0, answered(10, 0, 2)),
@@ -101,9 +103,9 @@ fn check_largest_stamp() -> Result<(), String> {
 /// A refusal writes no byte; a drill none behind it.
 fn check_untouched() -> Result<(), String> {
     let mut out = [0xee; 101];
-    let got = write_drill_bytes((200, 1, 99, 1), &words("さが"), &mut out[..98]);
+    let got = write_drill_bytes((1_000, 1, 99, 1), &words("さが"), &mut out[..98]);
     expect("one byte short", (got, out), (answered(8, 0, 2), [0xee; 101]))?;
-    let got = write_drill_bytes((200, 1, 99, 1), &words("さが"), &mut out);
+    let got = write_drill_bytes((1_000, 1, 99, 1), &words("さが"), &mut out);
     expect("written", got, answered(0, 99, 2))?;
     expect("its bytes", &out[..], &[&SAGA[..], &[0xee, 0xee]].concat())
 }

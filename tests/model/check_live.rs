@@ -67,7 +67,7 @@ fn check_largest() -> Result<(), String> {
     expect("pressed at the largest", end.distance(LARGEST_STAMP), Ok(Some(100)))?;
     expect("one more", end.distance(LARGEST_STAMP + 1), Err(4))?;
     expect("one less", end.distance(LARGEST_STAMP - 1), Err(5))?;
-    let slow = at(settings(200, 99, 1, 0)?, LARGEST_STAMP, Resting::S4 { key, m: 0, thumb, o });
+    let slow = at(settings(1_000, 99, 1, 0)?, LARGEST_STAMP, Resting::S4 { key, m: 0, thumb, o });
     expect("the farthest", slow.distance(LARGEST_STAMP), Ok(Some(99 * LARGEST_STAMP as i64)))?;
     let old = at(usual, 0, Resting::S2 { key, m: 0 });
     let overdue = 100 - LARGEST_STAMP as i64;
@@ -134,9 +134,18 @@ const RIGHT: Wrong = Wrong { machine: None, live: None };
 
 fn check_numbers() -> Result<(), String> {
     let fresh = Flat { t: 100, j: 50, l: 50, solo: 1, state: 1, ..Flat::default() };
-    expect("open", open((100, 50, 50, 1)), Opened { machine: fresh, number: 0 })?;
-    expect("not open", open((100, 50, 50, 2)), Opened { machine: Flat::default(), number: 1 })?;
+    let opened = |flat| Opened { machine: flat, number: 0 };
+    let closed = Opened { machine: Flat::default(), number: 1 };
+    expect("open", open(RIGHT, (100, 50, 50, 1)), opened(fresh))?;
+    expect("not open", open(RIGHT, (100, 50, 50, 2)), closed)?;
+    for t in [50, 200, 201, 999, 1_000] {
+        expect(&format!("T {t}"), open(RIGHT, (t, 50, 50, 1)), opened(Flat { t, ..fresh }))?;
+    }
+    for t in [0, 49, 1_001, 65_535] {
+        expect(&format!("T {t}"), open(RIGHT, (t, 50, 50, 1)), closed)?;
+    }
     check_p9(fresh)?;
+    check_slower(Flat { t: 1_000, solo: 0, ..fresh })?;
     let refused = |flat: Flat, event: (u8, u8, u64), number: u32| {
         let (kind, key, stamp) = event;
         let got = step_numbers(RIGHT, &flat, Event { kind, key, stamp });
@@ -152,7 +161,7 @@ fn check_numbers() -> Result<(), String> {
         let right = Asked { number: 2, ..Asked::default() };
         expect("nameless, the distance", distance(RIGHT, &nameless, u64::MAX), right)?;
     }
-    println!("numbers: P9 step by step, refusals hand the numbers back as given");
+    println!("numbers: P9 and 4/12 step by step, refusals hand the numbers back as given");
     Ok(())
 }
 
@@ -168,6 +177,23 @@ fn nameless(waiting: Flat) -> [Flat; 8] {
         Flat { state: 4, o: 50, thumb: 2, ..waiting },
         Flat { state: 5, o: 50, r: 50, ..waiting },
     ]
+}
+
+/// Request 4/12's keystrokes, every number of every answer.
+fn check_slower(fresh: Flat) -> Result<(), String> {
+    let (ka, ga, none) = (0x304b, 0x304c, Stepped::default());
+    let s2 = Flat { state: 2, key: 21, ..fresh };
+    let s4 = Flat { state: 4, thumb: 1, o: 500, last: 500, ..s2 };
+    let s3 = Flat { state: 3, thumb: 1, o: 500, last: 899, ..fresh };
+    let asked = |milliseconds| Asked { number: 0, deadline: 1, milliseconds };
+    let down = ((1, 21, 0), Stepped { machine: s2, sent_first: ka, ..none }, asked(1_000));
+    let thumb = ((3, 1, 500), Stepped { machine: s4, ..none }, asked(500));
+    let plain = Stepped { machine: s3, items: 1, first: ka, ..none };
+    let chord = Stepped { machine: Flat { last: 900, ..fresh }, items: 1, first: ga, ..none };
+    let chord = Stepped { backspace: 1, sent_first: ga, ..chord };
+    let up = |stamp, stepped| ((2, 21, stamp), stepped, Asked::default());
+    check_lines("4/12", fresh, &[down, thumb, up(899, plain)])?;
+    check_lines("4/12", fresh, &[down, thumb, up(900, chord)])
 }
 
 /// 01's P9, every number of every answer.
@@ -187,12 +213,18 @@ fn check_p9(fresh: Flat) -> Result<(), String> {
         ((6, 0, 79), Stepped { machine: Flat { last: 79, ..s6 }, ..none }, asked(1)),
         ((6, 0, 80), Stepped { machine: Flat { last: 80, ..fresh }, ..end }, Asked::default()),
     ];
-    let mut flat = fresh;
-    for ((kind, key, stamp), right, wait) in lines {
+    check_lines("P9", fresh, &lines)
+}
+
+/// Kind, key and stamp of an event, its answer, and the distance from its stamp then.
+type Line = ((u8, u8, u64), Stepped, Asked);
+
+fn check_lines(name: &str, mut flat: Flat, lines: &[Line]) -> Result<(), String> {
+    for ((kind, key, stamp), right, wait) in lines.iter().copied() {
         let got = step_numbers(RIGHT, &flat, Event { kind, key, stamp });
-        expect(&format!("P9 at {stamp}"), got, right)?;
+        expect(&format!("{name} at {stamp}"), got, right)?;
         flat = got.machine;
-        expect(&format!("P9 at {stamp}, the distance"), distance(RIGHT, &flat, stamp), wait)?;
+        expect(&format!("{name} at {stamp}, the distance"), distance(RIGHT, &flat, stamp), wait)?;
     }
     Ok(())
 }

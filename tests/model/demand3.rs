@@ -121,7 +121,8 @@ fn check(settings: Settings, events: &[Event]) -> Result<Run, String> {
 fn check_ticks(random: &mut Random, settings: Settings, events: &[Event]) -> Result<(), String> {
     let keys = accepted_keys(settings, events);
     let last = keys.last().map_or(0, |event| event.stamp);
-    let stamps = [last, last + random.below(400), last + 40_000];
+    // The last is beyond every wait.
+    let stamps = [last, last + random.below(1_200), last + 200_000];
     let end = tick(random.pick(&stamps).min(LARGEST_STAMP));
     let bare = [&keys[..], &[end]].concat();
     let full = with_ticks(random, settings, &bare);

@@ -3,7 +3,8 @@
 
 use crate::log::{event_record, log_of, read_log, settings_record, RawSettings};
 use crate::model::{
-    step, Event, Machine, Resting, Settings, Thumb, KEYS, LARGEST_STAMP, SHORT_OVERLAP,
+    step, Event, Machine, Resting, Settings, Thumb, KEYS, LARGEST_STAMP, LEAST_T, MOST_T,
+    SHORT_OVERLAP,
 };
 use crate::notation;
 use crate::random::Random;
@@ -65,8 +66,8 @@ fn random_count(random: &mut Random) -> usize {
 /// Settings in range, boundaries often among them.
 pub fn right_settings(random: &mut Random) -> RawSettings {
     let t = match random.below(4) {
-        0 => random.between(50, 200) as u16,
-        _ => random.pick(&[50, 51, 100, 100, 199, 200]),
+        0 => random.between(LEAST_T, MOST_T) as u16,
+        _ => random.pick(&[50, 51, 100, 100, 200, 201, 400, 401, 500, 999, 1_000, 1_000]),
     };
     (t, percent(random), percent(random), random.pick(&[0, 1]))
 }
@@ -83,7 +84,7 @@ pub fn wrong_settings(random: &mut Random) -> RawSettings {
     let (t, j, l, solo) = right_settings(random);
     let percent = random.pick(&[0, 100, 255]);
     match random.below(4) {
-        0 => (random.pick(&[0, 49, 201, 255, 256, 306, 65_535]), j, l, solo),
+        0 => (random.pick(&[0, 49, 1_001, 1_002, 1_074, 12_800, 65_535]), j, l, solo),
         1 => (t, percent, l, solo),
         2 => (t, j, percent, solo),
         _ => (t, j, l, random.pick(&[2, 3, 255])),
@@ -142,17 +143,28 @@ fn accepted_event(random: &mut Random, machine: &Machine, keys: &[u8]) -> Event 
 }
 
 /// An event at or beside the stamp where its own rule turns: equal gaps in S4
-/// and S5, 400 ms in S4, and in S5 the longest wait that leads on to S4.
+/// and S5, 400 ms in both, and in S5 the longest wait that leads on to S4. In S2
+/// and S3 one that leads on to a long wait, in which 400 ms may come up.
 fn turning_event(random: &mut Random, machine: &Machine, keys: &[u8]) -> Option<Event> {
-    let deadline = due(machine)?;
+    let deadline = due(machine).unwrap_or(machine.last);
     let (kind, key, stamp) = match machine.resting {
+        Resting::S1 | Resting::S6 { .. } => return None,
+        Resting::S2 { .. } => {
+            (3, random.pick(&[0, 1]), deadline.saturating_sub(random.between(2, 50)))
+        }
+        Resting::S3 { o, .. } => {
+            let wait = (o + machine.settings.b()).saturating_sub(random.between(2, 50));
+            (1, random.pick(keys), wait)
+        }
         Resting::S4 { m, o, .. } if random.once_in(2) => (1, random.pick(keys), o + (o - m)),
         Resting::S4 { key, o, .. } => (2, key, o + SHORT_OVERLAP),
+        Resting::S5 { m, thumb, .. } if random.once_in(2) => {
+            (4, u8::from(thumb == Thumb::Right), m + SHORT_OVERLAP)
+        }
         Resting::S5 { o, m, thumb, .. } => {
             let other = u8::from(thumb == Thumb::Left);
             (3, other, random.pick(&[m + (m - o), deadline.saturating_sub(2)]))
         }
-        _ => return None,
     };
     Some(Event { kind, key, stamp: beside(random, machine, stamp) })
 }
@@ -175,9 +187,11 @@ pub fn next_stamp(random: &mut Random, machine: &Machine) -> u64 {
     let stamp = match random.below(64) {
         0..=9 => last,
         10..=37 => return beside(random, machine, deadline.unwrap_or(last)),
-        38..=51 => last + random.below(40),
-        52..=59 => last + random.below(450),
-        60..=62 => last + random.below(30_000),
+        38..=50 => last + random.below(40),
+        51..=55 => last + random.below(450),
+        56..=59 => last + random.below(1_200),
+        60 | 61 => last + random.below(30_000),
+        62 => last + random.below(150_000),
         _ => LARGEST_STAMP - random.below(1_000),
     };
     stamp.clamp(last, LARGEST_STAMP)
@@ -286,9 +300,10 @@ fn random_room(random: &mut Random, log: &[u8]) -> usize {
 
 // ---- Damage at every place ----
 
-/// Logs that every damage is tried on: 01's own, one through all states, and one
-/// with steps of two words.
-const BASES: [(RawSettings, &str); 3] = [
+/// Logs that every damage is tried on: 01's own, one through all states, one with
+/// steps of two words, and one of slower hands with overlaps of 399 and 400 ms in
+/// S4 and S5.
+const BASES: [(RawSettings, &str); 4] = [
     (
         (100, 50, 50, 0),
         "24@0 24up@60 18@100 18up@150 21@200 R@230 21up@270 Rup@280 18@300 tick@400",
@@ -298,6 +313,11 @@ const BASES: [(RawSettings, &str); 3] = [
         "R@0 21@40 Rup@60 L@70 24@80 R@90 24up@95 0@300 R@310 0@340 F@345 L@350 R@360 tick@470",
     ),
     ((100, 50, 50, 1), "R@0 21@40 Rup@60 tick@80 L@100 24@140 Lup@160 F@170 30@180"),
+    (
+        (1_000, 50, 50, 1),
+        "21@0 R@500 21up@899 Rup@950 21@1000 R@1500 21up@1900 Rup@1950 \
+         L@2000 24@2500 Lup@2899 tick@3298 L@4000 24@4500 Lup@4900 18@5000",
+    ),
 ];
 
 fn base_logs() -> impl Iterator<Item = Vec<u8>> {
@@ -361,8 +381,11 @@ fn every_boundary<E>(events: &[u8], visit: Visit<E>) -> Result<(), E> {
 /// Settings on and beside every boundary.
 pub fn boundary_settings() -> impl Iterator<Item = RawSettings> {
     const PERCENTS: [u8; 8] = [0, 1, 2, 50, 98, 99, 100, 255];
-    let times = [0, 49, 50, 51, 100, 199, 200, 201, 256, 306, 65_535].into_iter();
-    let first = times.flat_map(|t| PERCENTS.map(|j| (t, j)));
+    // 1,074 and 12,800 have 50 for one byte and would pass if the other were lost.
+    const TIMES: [u16; 17] = [
+        0, 49, 50, 51, 100, 200, 201, 256, 306, 400, 401, 999, 1_000, 1_001, 1_074, 12_800, 65_535,
+    ];
+    let first = TIMES.into_iter().flat_map(|t| PERCENTS.map(|j| (t, j)));
     let second = first.flat_map(|(t, j)| PERCENTS.map(|l| (t, j, l)));
     second.flat_map(|(t, j, l)| [0, 1, 2, 255].map(|solo| (t, j, l, solo)))
 }

@@ -101,7 +101,7 @@ impl Flat {
     /// is not well formed.
     pub fn machine(&self, wrong: Wrong) -> Result<Machine, u32> {
         let ignored = wrong.live(LiveSlip::LeftOverIgnored);
-        let settings = self.settings().ok_or(2u32)?.with_slip(wrong.machine);
+        let settings = settings(wrong, self.raw_settings()).ok_or(2u32)?;
         let resting = self.resting().filter(|_| ignored || self.nothing_left_over()).ok_or(2u32)?;
         let machine = Machine { settings, resting, last: self.last };
         if machine.well_formed() {
@@ -109,10 +109,6 @@ impl Flat {
         } else {
             Err(2)
         }
-    }
-
-    fn settings(&self) -> Option<Settings> {
-        Settings::new(self.t.into(), self.j.into(), self.l.into(), self.solo.into())
     }
 
     pub fn raw_settings(&self) -> RawSettings {
@@ -148,6 +144,11 @@ impl Flat {
     }
 }
 
+/// None if a number is out of range.
+fn settings(wrong: Wrong, (t, j, l, solo): RawSettings) -> Option<Settings> {
+    Settings::new_with(wrong.machine, t.into(), j.into(), l.into(), solo.into())
+}
+
 fn number(thumb: Thumb) -> u8 {
     match thumb {
         Thumb::Left => 0,
@@ -164,9 +165,8 @@ pub struct Opened {
     pub number: u64,
 }
 
-pub fn open(raw: RawSettings) -> Opened {
-    let (t, j, l, solo) = raw;
-    match Settings::new(t.into(), j.into(), l.into(), solo.into()) {
+pub fn open(wrong: Wrong, raw: RawSettings) -> Opened {
+    match settings(wrong, raw) {
         Some(settings) => Opened { machine: Flat::of(raw, &Machine::fresh(settings)), number: 0 },
         None => Opened { machine: Flat::default(), number: 1 },
     }

@@ -14,10 +14,12 @@ use std::process::ExitCode;
 use trabeculon_model::demand3;
 use trabeculon_model::drill::{drill, USUAL_SETTINGS};
 use trabeculon_model::generate;
-use trabeculon_model::log::{log_of, play, read_log, read_log_bytes, Answer, RawSettings, BUFFER};
+use trabeculon_model::log::{
+    log_of, play, read_log, read_log_bytes, settings_record, Answer, RawSettings, BUFFER,
+};
 use trabeculon_model::model::{
     character, sign, step, Event, Face, Item, Machine, Resting, Settings, Thumb, KEYS,
-    LARGEST_STAMP,
+    LARGEST_STAMP, LEAST_T, MOST_T,
 };
 use trabeculon_model::notation::{events, sendings_text, sign_text};
 use trabeculon_model::random::Random;
@@ -115,8 +117,27 @@ fn check_numbers() -> Result<(), String> {
     expect("A and B at T=200, J=L=99", (s.a(), s.b()), (3, 3))?;
     expect("D at T=200, J=L=99", s.fl(s.b()), 297)?;
     expect("W at T=200, J=L=99", s.longest_wait(), 29_700)?;
-    println!("numbers: A, B, FJ, FL, W as 01 gives them");
+    expect("W at T=1000, J=L=50", settings(1_000, 50, 50, 0)?.longest_wait(), 2_000)?;
+    expect("A at T=1000, J=1", settings(1_000, 1, 50, 0)?.a(), 99_000)?;
+    let (longest, at) = longest_wait_of_all()?;
+    println!("numbers: A, B, FJ, FL, W as the papers give them; the longest W {longest} at {at}");
     Ok(())
+}
+
+/// The longest W over all settings, and where it is first reached.
+fn longest_wait_of_all() -> Result<(u64, String), String> {
+    let mut longest = (0, String::new());
+    for t in LEAST_T..=MOST_T {
+        for (j, l) in (1..=99).flat_map(|j| (1..=99).map(move |l| (j, l))) {
+            let w = settings(t, j, l, 0)?.longest_wait();
+            if w > longest.0 {
+                longest = (w, format!("T={t}, J={j}, L={l}"));
+            }
+        }
+    }
+    // At J=1 X is A, 99,000, and FJ(X) is no more than 1,000.
+    expect("the longest W", longest.0, 198_000)?;
+    Ok(longest)
 }
 
 fn check_layout() -> Result<(), String> {
@@ -146,7 +167,7 @@ fn check_examples() -> Result<(), String> {
     for example in &EXAMPLES {
         check_example(example).map_err(|what| format!("{}: {what}", example.name))?;
     }
-    println!("examples: {} runs, P1 to P11 among them", EXAMPLES.len());
+    println!("examples: {} runs, P1 to P11 and 4/12's among them", EXAMPLES.len());
     Ok(())
 }
 
@@ -179,12 +200,15 @@ fn name(resting: &Resting) -> &'static str {
 // ---- Refusals ----
 
 fn check_refusals() -> Result<(), String> {
-    for (t, j, l, solo) in [(50, 1, 1, 0), (200, 99, 99, 1), (50, 99, 1, 1), (200, 1, 99, 0)] {
+    let right = [(50, 1, 1, 0), (1_000, 99, 99, 1), (50, 99, 1, 1), (1_000, 1, 99, 0)];
+    let slower = [(200, 50, 50, 0), (201, 50, 50, 0), (999, 50, 50, 1)];
+    for (t, j, l, solo) in right.into_iter().chain(slower) {
         expect("settings in range", Settings::new(t, j, l, solo).is_some(), true)?;
     }
-    let out = [(49, 50, 50, 0), (201, 50, 50, 0), (100, 0, 50, 0), (100, 100, 50, 0)];
+    let out = [(49, 50, 50, 0), (1_001, 50, 50, 0), (100, 0, 50, 0), (100, 100, 50, 0)];
     let more = [(100, 50, 0, 0), (100, 50, 100, 0), (100, 50, 50, 2), (0, 0, 0, 0)];
-    for (t, j, l, solo) in out.into_iter().chain(more) {
+    let far = [(65_535, 50, 50, 0), (u64::MAX, 50, 50, 0)];
+    for (t, j, l, solo) in out.into_iter().chain(more).chain(far) {
         expect("settings out of range", Settings::new(t, j, l, solo), None)?;
     }
     check_event_refusals()?;
@@ -261,8 +285,30 @@ fn check_logs() -> Result<(), String> {
     expect("its variant", play(&variant), "さいかい\nwaiting 0\n".to_string())?;
     check_answers(&log)?;
     check_bytes(&log)?;
-    println!("logs: 01's log of 138 bytes, its variant, refusals on a record, the C face");
+    check_slower(&log)?;
+    println!("logs: 01's log of 138 bytes, its variant, refusals on a record, the C face, T=1000");
     Ok(())
+}
+
+/// Request 4/12 in a log: its keystrokes, and T on both sides of its bound.
+fn check_slower(log: &[u8]) -> Result<(), String> {
+    let slow = |up: &str| {
+        let log = log_of((1_000, 50, 50, 0), &keystrokes(&format!("21@0 R@500 21up@{up}"))?);
+        Ok::<_, String>(play(&log))
+    };
+    expect("up at 899", slow("899")?, "か\nwaiting 0\n".to_string())?;
+    expect("up at 900", slow("900")?, "が\nwaiting 0\n".to_string())?;
+    let read = |t: u16| {
+        let log = [&settings_record(t, 50, 50, 0), &log[8..]].concat();
+        read_log(&log, &mut [9; 4])
+    };
+    expect("T 49", read(49), answer(1, 0, 0, 0))?;
+    // With a longer T the last character still waits at the tick.
+    for t in [200, 201, 999, 1_000] {
+        expect(&format!("T {t}"), read(t), answer(0, 3, 138, 1))?;
+    }
+    expect("T 1001", read(1_001), answer(1, 0, 0, 0))?;
+    expect("T 65535", read(65_535), answer(1, 0, 0, 0))
 }
 
 fn answer(number: u32, words: u64, offset: u64, waiting: u32) -> Answer {
@@ -347,9 +393,8 @@ fn check_demand3() -> Result<(), String> {
 type Reached = (&'static str, u8, &'static str, usize);
 
 /// The rules of 01's section "One event", some that change only the last stamp
-/// among them. Missing is S5's thumb release that is no short overlap: with T up
-/// to 200 its late line always comes first.
-const RULES: [Reached; 40] = [
+/// among them.
+const RULES: [Reached; 41] = [
     ("S1", 1, "S2", 0),
     ("S1", 3, "S3", 0),
     ("S2", 1, "S2", 1),
@@ -378,6 +423,7 @@ const RULES: [Reached; 40] = [
     ("S5", 3, "S3", 1),
     ("S5", 3, "S5", 0),
     ("S5", 4, "S6", 0),
+    ("S5", 4, "S1", 1),
     ("S5", 4, "S5", 0),
     ("S5", 2, "S1", 1),
     ("S5", 2, "S5", 0),

@@ -1,12 +1,15 @@
-//! The key-timing machine of document 01, as requests 1/12 and 3/12 of document 02
-//! mend it, in plain Rust, section by section in 01's order. Written from the
-//! papers alone and never from the proved code, so that a comparison of the two
-//! says something.
+//! The key-timing machine of document 01, as requests 1/12, 3/12 and 4/12 of
+//! document 02 mend it, in plain Rust, section by section in 01's order. Written
+//! from the papers alone and never from the proved code, so that a comparison of
+//! the two says something.
 
 // ---- Numbers ----
 
 /// From this overlap (ms) on, a chord is never taken for two single keys.
 pub const SHORT_OVERLAP: u64 = 400;
+/// The smallest and the largest T (ms); the largest as request 4/12 has it.
+pub const LEAST_T: u64 = 50;
+pub const MOST_T: u64 = 1_000;
 pub const KEYS: u8 = 31;
 pub const LARGEST_STAMP: u64 = 1_000_000_000_000;
 
@@ -25,15 +28,24 @@ pub enum Slip {
     NoCap,
     /// The 400 ms rule is missing.
     NoShortOverlap,
+    /// The 400 ms rule is missing in S5.
+    NoShortOverlapInS5,
+    /// An overlap of exactly 400 ms counts as short.
+    ShortOverlapLate,
+    /// T above 200 is refused, as before 4/12.
+    TMost200,
 }
 
-pub const SLIPS: [(&str, Slip); 6] = [
+pub const SLIPS: [(&str, Slip); 9] = [
     ("late-after-event", Slip::LateAfterEvent),
     ("rounds-down", Slip::RoundsDown),
     ("thumb-restarts", Slip::ThumbRestarts),
     ("equal-gap", Slip::EqualGap),
     ("no-cap", Slip::NoCap),
     ("no-short-overlap", Slip::NoShortOverlap),
+    ("no-short-overlap-in-s5", Slip::NoShortOverlapInS5),
+    ("short-overlap-late", Slip::ShortOverlapLate),
+    ("t-most-200", Slip::TMost200),
 ];
 
 /// Settings in range: `new` is the only way to get one.
@@ -49,17 +61,18 @@ pub struct Settings {
 impl Settings {
     /// None if a number is out of range (refusal 1).
     pub fn new(t: u64, j: u64, l: u64, solo: u64) -> Option<Settings> {
-        let percent = 1..=99;
-        if (50..=200).contains(&t) && percent.contains(&j) && percent.contains(&l) && solo <= 1 {
-            Some(Settings { t, j, l, solo: solo == 1, slip: None })
-        } else {
-            None
-        }
+        Settings::new_with(None, t, j, l, solo)
     }
 
-    /// The same settings, judged by a wrong rule.
-    pub fn with_slip(self, slip: Option<Slip>) -> Settings {
-        Settings { slip, ..self }
+    /// The same with a wrong rule put in.
+    pub fn new_with(slip: Option<Slip>, t: u64, j: u64, l: u64, solo: u64) -> Option<Settings> {
+        let most_t = if slip == Some(Slip::TMost200) { 200 } else { MOST_T };
+        let percent = 1..=99;
+        let in_range = (LEAST_T..=most_t).contains(&t)
+            && percent.contains(&j)
+            && percent.contains(&l)
+            && solo <= 1;
+        in_range.then_some(Settings { t, j, l, solo: solo == 1, slip })
     }
 
     fn slips(&self, slip: Slip) -> bool {
@@ -215,6 +228,24 @@ impl Machine {
             S5 { o, m, .. } => Some(m + s.fl((m - o).min(s.b()))),
             S6 { m, r, .. } => Some(r + (r - m)),
         }
+    }
+
+    /// The overlap that an event ends and that 400 ms decide upon, since it is under
+    /// its share of the whole: M's release in S4 or O's in S5, before the deadline.
+    pub fn overlap_ended_by(&self, event: Event) -> Option<u64> {
+        let now = event.stamp;
+        let waits = matches!(self.distance(now), Ok(Some(1..)));
+        let input = parse(event.kind, event.key).filter(|_| waits)?;
+        let (percent, a, b) = match (self.resting, input) {
+            (S4 { key, m, o, .. }, Input::CharacterUp(up)) if up == key => {
+                (self.settings.j, o - m, now - o)
+            }
+            (S5 { thumb, o, m, .. }, Input::ThumbUp(up)) if up == thumb => {
+                (self.settings.l, m - o, now - m)
+            }
+            _ => return None,
+        };
+        under_share(percent, a, b).then_some(b)
     }
 
     /// The key of the character that waits.
@@ -426,7 +457,7 @@ fn act_s4(
             (chord(key, thumb), S3 { thumb: other, o: now })
         }
         Input::CharacterUp(up) if up == key => {
-            if short_overlap(settings, settings.j, a, b) {
+            if under_share(settings.j, a, b) && under_400(settings, false, b) {
                 let o = if settings.slips(Slip::ThumbRestarts) { now } else { o };
                 (plain(key), S3 { thumb, o })
             } else {
@@ -458,7 +489,7 @@ fn act_s5(
             }
         }
         Input::ThumbUp(up) if up == thumb => {
-            if short_overlap(settings, settings.l, a, b) {
+            if under_share(settings.l, a, b) && under_400(settings, true, b) {
                 (vec![], S6 { thumb, o, key, m, r: now })
             } else {
                 (chord(key, thumb), S1)
@@ -490,10 +521,19 @@ fn keeps_plain(settings: &Settings, a: u64, b: u64) -> bool {
     }
 }
 
-/// The overlap b is under its share of the whole, and under 400 ms.
-fn short_overlap(settings: &Settings, percent: u64, a: u64, b: u64) -> bool {
-    let short = b < SHORT_OVERLAP || settings.slips(Slip::NoShortOverlap);
-    100 * b < percent * (a + b) && short
+/// The overlap b is under its share of the whole.
+fn under_share(percent: u64, a: u64, b: u64) -> bool {
+    100 * b < percent * (a + b)
+}
+
+/// The overlap b is under 400 ms.
+fn under_400(settings: &Settings, in_s5: bool, b: u64) -> bool {
+    match settings.slip {
+        Some(Slip::NoShortOverlap) => true,
+        Some(Slip::NoShortOverlapInS5) if in_s5 => true,
+        Some(Slip::ShortOverlapLate) => b <= SHORT_OVERLAP,
+        _ => b < SHORT_OVERLAP,
+    }
 }
 
 // ---- Zero delay ----

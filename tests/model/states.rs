@@ -66,8 +66,9 @@ fn gap(random: &mut Random, flat: &Flat) -> u64 {
         8 => near(random, wait(flat.j)),
         9 => near(random, wait(flat.l)),
         10 => near(random, SHORT_OVERLAP),
-        11..=13 => random.below(450),
-        14 => random.below(30_000),
+        11 | 12 => random.below(450),
+        13 => random.below(1_200),
+        14 => random.below(150_000),
         _ => random.below(LARGEST_STAMP + 1),
     }
 }
@@ -182,12 +183,26 @@ fn noise(random: &mut Random) -> Flat {
 
 /// Any event, most of them allowed and with a stamp where a rule turns.
 pub fn random_event(random: &mut Random, flat: &Flat) -> Event {
+    if let Some(event) = overlap_end(random, flat).filter(|_| random.once_in(6)) {
+        return event;
+    }
     let (kind, key) = match random.below(16) {
         0 => forbidden(random),
         1 => (random.pick(&[0, 1, 2, 3, 4, 5, 6, 7, 255]), random.byte()),
         _ => allowed(random, flat),
     };
     Event { kind, key, stamp: random_stamp(random, flat) }
+}
+
+/// The release that ends an overlap, at or beside 400 ms.
+fn overlap_end(random: &mut Random, flat: &Flat) -> Option<Event> {
+    let (kind, key, pressed) = match flat.state {
+        4 => (2, flat.key, flat.o),
+        5 => (4, flat.thumb, flat.m),
+        _ => return None,
+    };
+    let stamp = near(random, pressed.saturating_add(SHORT_OVERLAP));
+    Some(Event { kind, key, stamp: stamp.clamp(flat.last, LARGEST_STAMP.max(flat.last)) })
 }
 
 fn allowed(random: &mut Random, flat: &Flat) -> (u8, u8) {
@@ -246,8 +261,9 @@ fn turns(flat: &Flat) -> [u64; 6] {
 const USUAL: Flat =
     Flat { last: 0, m: 0, o: 0, r: 0, t: 100, j: 50, l: 50, solo: 1, state: 1, key: 0, thumb: 0 };
 
-/// Every state, its deadline still to come, and some that are due or overdue.
-const BASES: [Flat; 9] = [
+/// Every state, its deadline still to come, some that are due or overdue, and two
+/// of slower hands that still wait when 400 ms are over.
+const BASES: [Flat; 11] = [
     Flat { last: 1_000, ..USUAL },
     Flat { state: 2, key: 21, m: 990, last: 1_000, ..USUAL },
     Flat { state: 2, key: 0, m: 500, last: 1_000, ..USUAL },
@@ -257,10 +273,12 @@ const BASES: [Flat; 9] = [
     Flat { state: 5, key: 10, m: 970, thumb: 0, o: 940, last: 1_000, ..USUAL },
     Flat { state: 5, key: 0, m: 995, thumb: 1, o: 0, last: 1_000, ..USUAL },
     Flat { state: 6, key: 24, m: 980, thumb: 1, o: 950, r: 995, last: 1_000, ..USUAL },
+    Flat { t: 1_000, state: 4, key: 21, m: 100, thumb: 1, o: 700, last: 1_000, ..USUAL },
+    Flat { t: 1_000, state: 5, key: 21, m: 700, thumb: 1, o: 100, last: 1_000, ..USUAL },
 ];
 
 /// What is put into each place of the numbers.
-const VALUES: [u64; 28] = [
+const VALUES: [u64; 30] = [
     0,
     1,
     2,
@@ -276,6 +294,7 @@ const VALUES: [u64; 28] = [
     32,
     49,
     50,
+    51,
     99,
     100,
     200,
@@ -284,6 +303,7 @@ const VALUES: [u64; 28] = [
     999,
     1_000,
     1_001,
+    65_535,
     LARGEST_STAMP,
     LARGEST_STAMP + 1,
     1 << 32,
@@ -342,12 +362,14 @@ fn every_kind_and_key<E>(flat: &Flat, visit: Visit<E>) -> Result<(), E> {
     Ok(())
 }
 
-/// Every kind with M's key or either thumb, around the last stamp or the deadline.
+/// Every kind with M's key or either thumb, around the last stamp, the deadline or
+/// 400 ms of overlap.
 fn every_allowed<E>(flat: &Flat, visit: Visit<E>) -> Result<(), E> {
     let due = deadline(flat);
     let own = flat.key.min(KEYS - 1);
     let events = [(1, own), (2, own), (3, 0), (3, 1), (4, 0), (4, 1), (5, 0), (6, 0)];
-    let stamps = [flat.last, due.saturating_sub(1), due];
+    let overlap = if flat.state == 4 { flat.o } else { flat.m }.saturating_add(SHORT_OVERLAP);
+    let stamps = [flat.last, due.saturating_sub(1), due, overlap - 1, overlap];
     for (kind, key) in events {
         stamps.iter().try_for_each(|stamp| visit(flat, Event { kind, key, stamp: *stamp }))?;
     }

@@ -1,7 +1,7 @@
 //! Document 01's "Keystrokes to try" (P8 as request 1/12 has it) and "Where a
-//! programmer slips", and a few more, as one table: what each keystroke commits
-//! and sends, and the state it leaves. States and sendings that the papers don't
-//! name were worked out by hand.
+//! programmer slips", request 4/12's keystrokes, and a few more, as one table: what
+//! each keystroke commits and sends, and the state it leaves. States and sendings
+//! that the papers don't name were worked out by hand.
 
 /// Keystroke, what it commits, what it sends, the state it leaves.
 pub type Line = (&'static str, &'static str, &'static str, &'static str);
@@ -15,9 +15,11 @@ pub struct Example {
 
 const USUAL: (u64, u64, u64, u64) = (100, 50, 50, 0);
 const SOLO: (u64, u64, u64, u64) = (100, 50, 50, 1);
+const SLOW: (u64, u64, u64, u64) = (1_000, 50, 50, 0);
+const SLOW_SOLO: (u64, u64, u64, u64) = (1_000, 50, 50, 1);
 
 #[rustfmt::skip]
-pub const EXAMPLES: [Example; 21] = [
+pub const EXAMPLES: [Example; 26] = [
     Example { name: "P1", settings: USUAL, lines: &[
         ("21@0", "", "か", "S2"),
         ("tick@99", "", "", "S2"),
@@ -149,5 +151,37 @@ pub const EXAMPLES: [Example; 21] = [
         ("L@1296", "", "<BS>か", "S4"),
         ("tick@1696", "", "", "S4"),
         ("21up@1696", "え", "<BS>え", "S1"),
+    ] },
+    Example { name: "4/12, 399 ms in a plain chord", settings: SLOW, lines: &[
+        ("21@0", "", "か", "S2"),
+        ("R@500", "", "", "S4"),
+        ("21up@899", "か", "", "S3"),
+        ("tick@1500", "", "", "S3"),
+    ] },
+    Example { name: "4/12, 400 ms in a plain chord", settings: SLOW, lines: &[
+        ("21@0", "", "か", "S2"),
+        ("R@500", "", "", "S4"),
+        ("tick@900", "", "", "S4"),
+        ("21up@900", "が", "<BS>が", "S1"),
+    ] },
+    Example { name: "4/12, the thumb that rests has its old stamp", settings: SLOW_SOLO, lines: &[
+        ("21@0", "", "か", "S2"),
+        ("R@500", "", "", "S4"),
+        ("21up@899", "か", "", "S3"),
+        ("tick@1499", "", "", "S3"),
+        ("tick@1500", "<R>", "<R>", "S1"),
+    ] },
+    Example { name: "399 ms with the thumb first", settings: SLOW_SOLO, lines: &[
+        ("R@0", "", "", "S3"),
+        ("21@500", "", "が", "S5"),
+        ("Rup@899", "", "", "S6"),
+        ("tick@1297", "", "", "S6"),
+        ("tick@1298", "<R>か", "<BS><R>か", "S1"),
+    ] },
+    Example { name: "400 ms with the thumb first", settings: SLOW_SOLO, lines: &[
+        ("R@0", "", "", "S3"),
+        ("21@500", "", "が", "S5"),
+        ("tick@900", "", "", "S5"),
+        ("Rup@900", "が", "", "S1"),
     ] },
 ];
