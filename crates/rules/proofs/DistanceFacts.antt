@@ -92,10 +92,10 @@ answers m now =
 -- by the three tests: asking and a tick make the same ones, in the same order
 same-tests : (m : Machine) (now : Stamp) (d : Option ℤ) (formed above before : Bool)
     → (if formed then
-      (if above then not-answered 4 else if before then not-answered 5 else record { number = 0; distance = d })
-      else not-answered 2) .number
+    (if above then not-answered 4 else if before then not-answered 5 else record { number = 0; distance = d })
+    else not-answered 2) .number
     ≡ answer m now
-      (if formed then (if above then refused 4 else if before then refused 5 else accepted Tick) else refused 2) .number
+    (if formed then (if above then refused 4 else if before then refused 5 else accepted Tick) else refused 2) .number
 same-tests m now d false above before = refl
 same-tests m now d true true before = refl
 same-tests m now d true false true = refl
