@@ -3,6 +3,7 @@
  * This is its face for a C host: five functions over runs and numbers. One reads
  * a log and one writes the log of a line; three drive a live keyboard: one opens
  * a machine, one takes an event, one says how far away the next deadline is.
+ * The first two are in libhost.a, the other three in libkeyboard.a.
  */
 #ifndef TRABECULON_H
 #define TRABECULON_H

@@ -1,3 +1,1 @@
 pub mod Packing
-mod Numbered
-pub mod HandedOn

@@ -1,4 +1,2 @@
 pub mod Face
 pub mod Drills
-pub mod Keyboard
-pub mod KeyboardFacts

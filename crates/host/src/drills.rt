@@ -1,7 +1,8 @@
 // The writer of drills for the console's C host.
 use rules::Settings;
+ghost use Rattle.rules.specs.Numbers.{settings-of};
 ghost use Rattle.writer.specs.Writes.{Writes};
-ghost use Rattle.host.specs.Drills.{settings-of, drilled};
+ghost use Rattle.host.specs.Drills.{drilled};
 
 // The answer of the writer: the number, the bytes written and a position (`Drilled` of the writer says which).
 #[repr(C)]

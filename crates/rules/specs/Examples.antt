@@ -7,7 +7,7 @@ use mathlib.Core.List.{List, [], _∷_, _++_, map}
 use mathlib.Core.Option.{none, some}
 use mathlib.Core.Path.{_≡_}
 use lib.IntN.{pos, negsuc}
-use Rattle.rules.specs.Numbers.{largest-stamp, A, B, D, W, FJ}
+use Rattle.rules.specs.Numbers.{largest-stamp, settings-of, A, B, D, W, FJ}
 use Rattle.rules.specs.LayoutFacts.{key}
 use Rattle.rules.specs.States.{at}
 use Rattle.rules.specs.ZeroDelay.{Sending, backspace, sign}
@@ -23,10 +23,6 @@ use Rattle.rules.specs.declared.Face.the-variants.{Plain, With}
 use Rattle.rules.specs.declared.Item.{Item}
 use Rattle.rules.specs.declared.Item.the-variants.{Character, Mark}
 use Rattle.rules.specs.declared.Event.{Event}
-
--- T, J, L, solo
-abbrev pub settings : ℕ → ℕ → ℕ → ℕ → Settings
-settings t j l solo = record { t = t; j = j; l = l; solo = solo }
 
 -- key 21 is か, え, が; 24 is さ, れ, ざ
 abbrev pub か : Item
@@ -93,19 +89,19 @@ example n s l = record { name = n; settings = s; lines = l }
 
 -- T=100, J=L=50, solo 0 unless said
 abbrev pub usual : Settings
-usual = settings 100 50 50 0
+usual = settings-of 100 50 50 0
 
 abbrev pub with-solo : Settings
-with-solo = settings 100 50 50 1
+with-solo = settings-of 100 50 50 1
 
 abbrev pub with-J-60 : Settings
-with-J-60 = settings 100 60 50 0
+with-J-60 = settings-of 100 60 50 0
 
 abbrev pub with-J-70 : Settings
-with-J-70 = settings 100 70 50 0
+with-J-70 = settings-of 100 70 50 0
 
 abbrev pub slow : Settings
-slow = settings 1000 50 50 0
+slow = settings-of 1000 50 50 0
 
 abbrev pub nothing : Line
 nothing = text []
@@ -173,7 +169,7 @@ distances =
     example "a thumb alone, solo 1" with-solo (thumb Right 0 ∷ asked 40 (to-wait 60) ∷ []) ∷
     example "refused" usual
     (down 21 50 ∷ asked 49 (refused 5) ∷ asked 50 (to-wait 100) ∷ asked (largest-stamp + 1) (refused 4) ∷ []) ∷
-    example "refused as a state" (settings 49 50 50 0) (asked 0 (refused 2) ∷ asked (largest-stamp + 1) (refused 2) ∷ []) ∷ []
+    example "refused as a state" (settings-of 49 50 50 0) (asked 0 (refused 2) ∷ asked (largest-stamp + 1) (refused 2) ∷ []) ∷ []
 
 -- The lines as the rules have them: each thing that 01 says is replaced by what there is. es are the events so far, from a
 -- fresh state; q is what the last of them sent.
@@ -224,7 +220,7 @@ numbers =
     worked with-J-70 (FJ-is 10 24 ∷ []) ∷
     worked usual (W-is 200 ∷ []) ∷
     worked slow (W-is 2_000 ∷ []) ∷
-    worked (settings 200 99 99 0) (A-is 3 ∷ B-is 3 ∷ D-is 297 ∷ W-is 29_700 ∷ []) ∷ []
+    worked (settings-of 200 99 99 0) (A-is 3 ∷ B-is 3 ∷ D-is 297 ∷ W-is 29_700 ∷ []) ∷ []
 
 abbrev pub computed-number : Settings → Number → Number
 computed-number s (A-is n) = A-is (A s)

@@ -41,6 +41,10 @@ in-range s =
     && within percent-least percent-most (s .l)
     && within 0 1 (s .solo)
 
+-- T, J, L, solo
+abbrev pub settings-of : ℕ → ℕ → ℕ → ℕ → Settings
+settings-of t j l solo = record { t = t; j = j; l = l; solo = solo }
+
 -- n / d, rounded up
 unfoldable pub up : ℕ → ℕ → ℕ
 up n d = (n + (d - 1)) / d

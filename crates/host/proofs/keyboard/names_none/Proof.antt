@@ -1,8 +1,0 @@
--- `host::keyboard::names_none` meets its contract.
-use mathlib.Core.Path.{refl}
-use Rattle.host.proofs.keyboard.names_none.Statement.{statement}
-use Rattle.host.proofs.keyboard.names_none.Tie as tie
-
-pub names-none-spec : {M : Type 1} → statement M
-names-none-spec =
-    tie.close (tie.spec (λ c. refl))

@@ -1,9 +1,0 @@
--- `host::keyboard::told` meets its contract.
-use mir.Syntax.{w64}
-use mir.ValLaws.{toZ-ofZ}
-use Rattle.host.proofs.keyboard.told.Statement.{statement}
-use Rattle.host.proofs.keyboard.told.Tie as tie
-
-pub told-spec : {M : Type 1} → statement M
-told-spec =
-    tie.close (tie.spec (λ c. rw (toZ-ofZ w64 (c .args .milliseconds) (c .fits .milliseconds))))

@@ -1,0 +1,80 @@
+-- What a C host leans on when it hands a keyboard's numbers from call to call.
+use native.Mathlib.Omega.{arith}
+use mathlib.Core.List.{List, map}
+use mathlib.Core.Logic.{_≢_}
+use mathlib.Core.Option.{Option, none, some}
+use mathlib.Core.Path.{_≡_, refl, ap, _∙_}
+use Rattle.rules.specs.Numbers.{in-range}
+use Rattle.rules.specs.States.{fresh, Opening, opening}
+use Rattle.rules.specs.GivenBack.{Verdict, refused, accepted, judge, answer, step}
+use Rattle.rules.specs.declared.Settings.{Settings}
+use Rattle.rules.specs.declared.Machine.{Machine}
+use Rattle.rules.specs.declared.Event.{Event}
+use Rattle.rules.proofs.Choices.{both-ways}
+use Rattle.flat.specs.Fields.{flat, resting-named, named}
+use Rattle.flat.specs.declared.Flat.{Flat}
+use Rattle.flat.proofs.RoundTrip.{loses-nothing}
+use Rattle.keyboard.specs.Keyboard.{no-machine, numbers-of, open-numbers, answered-numbers, refused-numbers, step-named, step-numbers}
+use Rattle.keyboard.specs.declared.StepAnswer.{StepAnswer}
+use Rattle.keyboard.specs.KeyboardFacts.{KeyboardCalls, no-more, call, answers, KeyboardFacts}
+
+-- there is no state 0
+names-none : named no-machine ≡ none
+unfolding named resting-named
+names-none = refl
+
+numbers-name : (x : Option Machine) → named (numbers-of x) ≡ x
+numbers-name none = names-none
+numbers-name (some x) = loses-nothing .back x
+
+steps-on : (f : Flat) (x : Machine) (e : Event) → named f ≡ some x → named (step-numbers f e .machine) ≡ some (step x e .machine)
+unfolding step-numbers
+steps-on f x e h = rw h (loses-nothing .back (step x e .machine))
+
+-- of a machine's answer, by its verdict
+by-verdict : (f : Flat) (x : Machine) (e : Event) → flat x ≡ f → (v : Verdict)
+    → answered-numbers (answer x (e .stamp) v) .number ≢ 0
+    → answered-numbers (answer x (e .stamp) v) ≡ refused-numbers f (answered-numbers (answer x (e .stamp) v) .number)
+by-verdict f x e same (refused n) h = rw same
+by-verdict f x e same (accepted i) h = absurd (h refl)
+
+refuses : (f : Flat) (e : Event) → step-numbers f e .number ≢ 0 → step-numbers f e ≡ refused-numbers f (step-numbers f e .number)
+unfolding step-numbers step
+refuses f e = go (named f) refl
+  where
+    go : (y : Option Machine) → named f ≡ y → step-named f e y .number ≢ 0 → step-named f e y ≡ refused-numbers f (step-named f e y .number)
+    go none h k = refl
+    go (some x) h k = by-verdict f x e (loses-nothing .one-form f x h) (judge x e) k
+
+-- a call at numbers that name a machine
+call-answers : (f : Flat) (x : Machine) (e : Event) → named f ≡ some x → step-numbers f e ≡ answered-numbers (step x e)
+unfolding step-numbers
+call-answers f x e h = rw h
+
+runs-from : {f : Flat} {es : List Event} {rs : List StepAnswer} (x : Machine) → named f ≡ some x → KeyboardCalls f es rs
+    → rs ≡ map answered-numbers (answers x es)
+runs-from x h no-more = refl
+runs-from x h (call {f = f} {e = e} {r = r} same more) =
+    let here : r ≡ answered-numbers (step x e) = same ∙ call-answers f x e h in
+    let rest = runs-from (step x e .machine) (ap (λ (a : StepAnswer). named (a .machine)) same ∙ steps-on f x e h) more in
+    rw (here, rest)
+
+-- what was opened is fresh
+opened-fresh : (s : Settings) → opening s .number ≡ 0 → opening s .machine ≡ some (fresh s)
+unfolding opening
+opened-fresh s =
+    both-ways (λ (o : Opening). o .number ≡ 0 → o .machine ≡ some (fresh s)) (in-range s) (λ _. refl) (λ z. absurd (omega arith))
+
+runs : (s : Settings) → opening s .number ≡ 0 → (es : List Event) (rs : List StepAnswer)
+    → KeyboardCalls (open-numbers (opening s) .machine) es rs
+    → rs ≡ map answered-numbers (answers (fresh s) es)
+runs s z es rs calls = runs-from (fresh s) (numbers-name (opening s .machine) ∙ opened-fresh s z) calls
+
+pub keyboard-facts : KeyboardFacts
+keyboard-facts =
+    record {
+      opens = λ s. numbers-name (opening s .machine);
+      steps-on = steps-on;
+      refuses = refuses;
+      runs = runs;
+    }

@@ -1,0 +1,209 @@
+// A keyboard that the console's C host drives itself. Its machine goes in and comes out as numbers, and nothing is kept here.
+use engine::Asked;
+use engine::Items;
+use engine::Sendings;
+use flat::Flat;
+use flat::Named;
+use rules::Event;
+use rules::Key;
+use rules::Machine;
+use rules::Opened;
+use rules::Settings;
+use rules::Stamp;
+ghost use mathlib.Core.Path.{_≡_};
+ghost use Rattle.rules.specs.States.{at, opening};
+ghost use Rattle.preview.specs.Views.{listed};
+ghost use Rattle.deadlines.specs.Views.{asked};
+ghost use Rattle.rules.specs.Numbers.{settings-of};
+ghost use Rattle.keyboard.specs.Keyboard.{event-of, no-machine, open-numbers, words-of, answer-numbers, refused-numbers, step-numbers, asked-numbers, distance-numbers};
+
+// A fresh machine, or refusal 1 and numbers that name no machine.
+#[repr(C)]
+pub struct OpenAnswer {
+    pub machine: Flat,
+    pub number: u64,
+}
+
+// The machine after an event, the number, how many items are committed, their words, and what is sent: a backspace (1) or
+// none (0), then signs, packed to the front, 0 behind the last.
+#[repr(C)]
+pub struct StepAnswer {
+    pub machine: Flat,
+    pub number: u32,
+    pub items: u32,
+    pub first: u16,
+    pub second: u16,
+    pub backspace: u16,
+    pub sent_first: u16,
+    pub sent_second: u16,
+    pub sent_third: u16,
+}
+
+// The number, whether there is a deadline (1) or not (0), and the milliseconds to it, 0 if there is none.
+#[repr(C)]
+pub struct DistanceAnswer {
+    pub number: u32,
+    pub deadline: u32,
+    pub milliseconds: i64,
+}
+
+// The items that a step commits, as words.
+struct Commits {
+    items: u32,
+    first: u16,
+    second: u16,
+}
+
+fn no_machine() -> Flat
+    ensures { λ r. ⌜ r ≡ no-machine ⌝ }
+{
+    Flat {
+        last: 0,
+        m: 0,
+        o: 0,
+        r: 0,
+        t: 0,
+        j: 0,
+        l: 0,
+        solo: 0,
+        state: 0,
+        key: 0,
+        thumb: 0,
+    }
+}
+
+fn committed(items: Items) -> Commits
+    ensures { λ r. ⌜ r ≡ words-of (listed items) ⌝ }
+{
+    match items {
+        Items::None => Commits {
+            items: 0,
+            first: 0,
+            second: 0,
+        },
+        Items::One(item) => Commits {
+            items: 1,
+            first: preview::word(item),
+            second: 0,
+        },
+        Items::Two(item, other) => Commits {
+            items: 2,
+            first: preview::word(item),
+            second: preview::word(other),
+        },
+    }
+}
+
+fn answer(machine: Flat, number: u8, words: Commits, sent: Sendings) -> StepAnswer
+    ensures { λ r. ⌜ r ≡ answer-numbers machine number words sent ⌝ }
+{
+    let signs = sent.signs;
+    StepAnswer {
+        machine: machine,
+        number: number as u32,
+        items: words.items,
+        first: words.first,
+        second: words.second,
+        backspace: sent.backspace as u16,
+        sent_first: signs.first,
+        sent_second: signs.second,
+        sent_third: signs.third,
+    }
+}
+
+// Refusal 2, with the numbers as given.
+fn names_none(machine: Flat) -> StepAnswer
+    ensures { λ r. ⌜ r ≡ refused-numbers machine 2 ⌝ }
+{
+    StepAnswer {
+        machine: machine,
+        number: 2,
+        items: 0,
+        first: 0,
+        second: 0,
+        backspace: 0,
+        sent_first: 0,
+        sent_second: 0,
+        sent_third: 0,
+    }
+}
+
+fn told(number: u32, deadline: u32, milliseconds: i64) -> DistanceAnswer
+    ensures { λ r. ⌜ r ≡ record { number = number; deadline = deadline; milliseconds = milliseconds } ⌝ }
+{
+    DistanceAnswer {
+        number: number,
+        deadline: deadline,
+        milliseconds: milliseconds,
+    }
+}
+
+fn distance_answer(answer: Asked) -> DistanceAnswer
+    ensures { λ r. ⌜ r ≡ asked-numbers (asked answer) ⌝ }
+{
+    match answer {
+        Asked::NotWellFormed => told(2, 0, 0),
+        Asked::AboveLargest => told(4, 0, 0),
+        Asked::BeforeLast => told(5, 0, 0),
+        Asked::NoDeadline => told(0, 0, 0),
+        Asked::In(milliseconds) => told(0, 1, milliseconds),
+    }
+}
+
+// Opens a machine.
+#[no_mangle]
+pub extern "C" fn trabeculon_open(t: u16, j: u8, l: u8, solo: u8) -> OpenAnswer
+    ensures { λ r. ⌜ r ≡ open-numbers (opening (settings-of t j l solo)) ⌝ }
+{
+    let settings = Settings {
+        t: t,
+        j: j,
+        l: l,
+        solo: solo,
+    };
+    match Machine::open(settings) {
+        Opened::OutOfRange => OpenAnswer {
+            machine: no_machine(),
+            number: 1,
+        },
+        Opened::Ready(machine) => OpenAnswer {
+            machine: flat::flatten(machine),
+            number: 0,
+        },
+    }
+}
+
+// One event at a machine.
+#[no_mangle]
+pub extern "C" fn trabeculon_step(machine: Flat, kind: u8, key: u8, stamp: u64) -> StepAnswer
+    ensures { λ r. ⌜ r ≡ step-numbers machine (event-of kind key stamp) ⌝ }
+{
+    match flat::machine_of(machine) {
+        Named::None => names_none(machine),
+        Named::Some(before) => {
+            let done = engine::step(
+                before,
+                Event {
+                    kind: kind,
+                    key: Key(key),
+                    stamp: Stamp(stamp),
+                },
+            );
+            let after = done.machine;
+            let items = done.items;
+            let sent = done.sendings;
+            answer(flat::flatten(after), done.number, committed(items), sent)
+        }
+    }
+}
+
+// How far the next deadline of a machine lies from a stamp.
+#[no_mangle]
+pub extern "C" fn trabeculon_distance(machine: Flat, stamp: u64) -> DistanceAnswer
+    ensures { λ r. ⌜ r ≡ distance-numbers machine (at stamp) ⌝ }
+{
+    match flat::machine_of(machine) {
+        Named::None => distance_answer(Asked::NotWellFormed),
+        Named::Some(asked) => distance_answer(engine::distance(asked, Stamp(stamp))),
+    }
+}
