@@ -15,10 +15,11 @@ use Rattle.rules.specs.declared.Machine.{Machine}
 use Rattle.rules.specs.declared.Event.{Event}
 use Rattle.rules.specs.declared.Input.{Input}
 
-both : {A B : Type 0} → A → B → A ↔ B
+-- both hold, or neither does
+pub both : {A B : Type 0} → A → B → A ↔ B
 both a b = (λ x. b, λ y. a)
 
-neither : {A B : Type 0} → ¬ A → ¬ B → A ↔ B
+pub neither : {A B : Type 0} → ¬ A → ¬ B → A ↔ B
 neither f g = (λ a. absurd (f a), λ b. absurd (g b))
 
 as-given : (m : Machine) (e : Event) (n : ℕ) → step m e ≡ refusal m n → LeftAsGiven m (step m e)
