@@ -7,6 +7,7 @@ use mathlib.Core.Path.{_≡_, refl, ap, _∙_}
 use Rattle.rules.specs.Numbers.{in-range}
 use Rattle.rules.specs.States.{fresh, Opening, opening}
 use Rattle.rules.specs.GivenBack.{Verdict, refused, accepted, judge, answer, step}
+use Rattle.rules.specs.Sequences.{after, state}
 use Rattle.rules.specs.declared.Settings.{Settings}
 use Rattle.rules.specs.declared.Machine.{Machine}
 use Rattle.rules.specs.declared.Event.{Event}
@@ -16,7 +17,7 @@ use Rattle.flat.specs.declared.Flat.{Flat}
 use Rattle.flat.proofs.RoundTrip.{loses-nothing}
 use Rattle.keyboard.specs.Keyboard.{no-machine, numbers-of, open-numbers, answered-numbers, refused-numbers, step-named, step-numbers}
 use Rattle.keyboard.specs.declared.StepAnswer.{StepAnswer}
-use Rattle.keyboard.specs.KeyboardFacts.{KeyboardCalls, no-more, call, answers, KeyboardFacts}
+use Rattle.keyboard.specs.KeyboardFacts.{KeyboardCalls, no-more, call, last-numbers, answers, KeyboardFacts}
 
 -- there is no state 0
 names-none : named no-machine ≡ none
@@ -51,13 +52,14 @@ call-answers : (f : Flat) (x : Machine) (e : Event) → named f ≡ some x → s
 unfolding step-numbers
 call-answers f x e h = rw h
 
+-- what calls answer, and what the last numbers name
 runs-from : {f : Flat} {es : List Event} {rs : List StepAnswer} (x : Machine) → named f ≡ some x → KeyboardCalls f es rs
-    → rs ≡ map answered-numbers (answers x es)
-runs-from x h no-more = refl
+    → (rs ≡ map answered-numbers (answers x es)) × (named (last-numbers f rs) ≡ some (after x es))
+runs-from x h no-more = (refl, h)
 runs-from x h (call {f = f} {e = e} {r = r} same more) =
     let here : r ≡ answered-numbers (step x e) = same ∙ call-answers f x e h in
     let rest = runs-from (step x e .machine) (ap (λ (a : StepAnswer). named (a .machine)) same ∙ steps-on f x e h) more in
-    rw (here, rest)
+    (rw (here, rest .0), rest .1)
 
 -- what was opened is fresh
 opened-fresh : (s : Settings) → opening s .number ≡ 0 → opening s .machine ≡ some (fresh s)
@@ -65,10 +67,10 @@ unfolding opening
 opened-fresh s =
     both-ways (λ (o : Opening). o .number ≡ 0 → o .machine ≡ some (fresh s)) (in-range s) (λ _. refl) (λ z. absurd (omega arith))
 
-runs : (s : Settings) → opening s .number ≡ 0 → (es : List Event) (rs : List StepAnswer)
+from-opening : (s : Settings) → opening s .number ≡ 0 → (es : List Event) (rs : List StepAnswer)
     → KeyboardCalls (open-numbers (opening s) .machine) es rs
-    → rs ≡ map answered-numbers (answers (fresh s) es)
-runs s z es rs calls = runs-from (fresh s) (numbers-name (opening s .machine) ∙ opened-fresh s z) calls
+    → (rs ≡ map answered-numbers (answers (fresh s) es)) × (named (last-numbers (open-numbers (opening s) .machine) rs) ≡ some (state s es))
+from-opening s z es rs calls = runs-from (fresh s) (numbers-name (opening s .machine) ∙ opened-fresh s z) calls
 
 pub keyboard-facts : KeyboardFacts
 keyboard-facts =
@@ -76,5 +78,6 @@ keyboard-facts =
       opens = λ s. numbers-name (opening s .machine);
       steps-on = steps-on;
       refuses = refuses;
-      runs = runs;
+      runs = λ s z es rs calls. from-opening s z es rs calls .0;
+      names-last = λ s z es rs calls. from-opening s z es rs calls .1;
     }

@@ -6,7 +6,7 @@ use mathlib.Core.Option.{some}
 use mathlib.Core.Path.{_≡_}
 use Rattle.rules.specs.States.{fresh, opening}
 use Rattle.rules.specs.GivenBack.{Answer, step}
-use Rattle.rules.specs.Sequences.{along}
+use Rattle.rules.specs.Sequences.{along, state}
 use Rattle.rules.specs.declared.Settings.{Settings}
 use Rattle.rules.specs.declared.Machine.{Machine}
 use Rattle.rules.specs.declared.Event.{Event}
@@ -21,6 +21,11 @@ pub data KeyboardCalls : Flat → List Event → List StepAnswer → Type 0 wher
   call : {f : Flat} {e : Event} {r : StepAnswer} {es : List Event} {rs : List StepAnswer} → r ≡ step-numbers f e
       → KeyboardCalls (r .machine) es rs
       → KeyboardCalls f (e ∷ es) (r ∷ rs)
+
+-- the machine that the last call gave back
+abbrev pub last-numbers : Flat → List StepAnswer → Flat
+last-numbers f [] = f
+last-numbers f (r ∷ rs) = last-numbers (r .machine) rs
 
 -- the answers of document 01 along a sequence, from a machine
 abbrev pub answers : Machine → List Event → List Answer
@@ -38,3 +43,7 @@ pub record KeyboardFacts : Type 0 where
   pub runs : (s : Settings) → opening s .number ≡ 0 → (es : List Event) (rs : List StepAnswer)
       → KeyboardCalls (open-numbers (opening s) .machine) es rs
       → rs ≡ map answered-numbers (answers (fresh s) es)
+  -- The numbers that the last of them gave back name the state that the events leave.
+  pub names-last : (s : Settings) → opening s .number ≡ 0 → (es : List Event) (rs : List StepAnswer)
+      → KeyboardCalls (open-numbers (opening s) .machine) es rs
+      → named (last-numbers (open-numbers (opening s) .machine) rs) ≡ some (state s es)

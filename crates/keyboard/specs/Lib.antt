@@ -1,2 +1,3 @@
 pub mod Keyboard
 pub mod KeyboardFacts
+pub mod HostScreen

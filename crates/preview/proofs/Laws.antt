@@ -59,11 +59,11 @@ taken-back p [] h e = rw (ne-eqb p 0 h)
 taken-back p (c ∷ q) h e = rw (ne-eqb p 0 h, ne-eqb p c e)
 
 -- what packed signs are sent as
-sends-no-backspace : (l : List ℕ) → begins-with-backspace (send l) ≡ false
+pub sends-no-backspace : (l : List ℕ) → begins-with-backspace (send l) ≡ false
 sends-no-backspace [] = refl
 sends-no-backspace (c ∷ l) = refl
 
-sends-signs : (l : List ℕ) → signs-among (send l) ≡ l
+pub sends-signs : (l : List ℕ) → signs-among (send l) ≡ l
 sends-signs [] = refl
 sends-signs (c ∷ l) = ap (λ (m : List ℕ). c ∷ m) (sends-signs l)
 

@@ -11,3 +11,12 @@ both-ways P false pa pb = pb
 pub by-test : {X : Type 0} (P : X → Type 0) (t : Bool) {a b : X} → (t ≡ true → P a) → (t ≡ false → P b) → P (if t then a else b)
 by-test P true f g = f refl
 by-test P false f g = g refl
+
+-- of two choices whose tests come out the same
+pub two-ways : {X Y : Type 0} (R : X → Y → Type 0) {t u : Bool} → t ≡ u → {a b : X} {c d : Y} → R a c → R b d
+    → R (if t then a else b) (if u then c else d)
+two-ways R {t} {u} e {a} {b} {c} {d} f g = rw e (go u)
+  where
+    go : (v : Bool) → R (if v then a else b) (if v then c else d)
+    go true = f
+    go false = g

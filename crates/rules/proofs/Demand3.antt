@@ -1,14 +1,12 @@
--- Demand 3, proved: the five sentences of specs/Demand3.antt about every sequence of events from a fresh state. And a law of its
--- own: every state that such a sequence leaves is well formed, so none of its events is refused 2.
+-- Demand 3, proved: the five sentences of specs/Demand3.antt about every sequence of events from a fresh state.
 use Prim.Native.Nat.{ℕ, suc, _+_, _≤_}
 use native.Mathlib.Omega.{arith}
-use mathlib.Core.Bool.{true, true≢false}
+use mathlib.Core.Bool.{true}
 use mathlib.Core.List.{List, [], _∷_, _++_}
-use mathlib.Core.Logic.{_≢_}
 use mathlib.Core.Path.{_≡_, refl, sym, _∙_, ap, subst}
 use lib.ListN.{length}
 use Rattle.rules.specs.Numbers.{in-range, X, W}
-use Rattle.rules.specs.States.{fresh, well-formed}
+use Rattle.rules.specs.States.{fresh}
 use Rattle.rules.specs.OneEvent.{Done}
 use Rattle.rules.specs.ZeroDelay.{backspace}
 use Rattle.rules.specs.GivenBack.{Answer, step}
@@ -18,10 +16,9 @@ use Rattle.rules.specs.declared.Stamp.{Stamp}
 use Rattle.rules.specs.declared.Settings.{Settings}
 use Rattle.rules.specs.declared.Machine.{Machine}
 use Rattle.rules.specs.declared.Event.{Event}
-use Rattle.rules.proofs.Refusals.{refusals}
 use Rattle.rules.proofs.Steps.{step-cases}
 use Rattle.rules.proofs.Bounds.{bounds}
-use Rattle.rules.proofs.Presses.{Ran, runs, is-well-formed, waiting-not-older, old-is-given}
+use Rattle.rules.proofs.Presses.{Ran, runs, waiting-not-older, old-is-given}
 use Rattle.rules.proofs.Screen.{run-shows, step-harmless}
 use Rattle.rules.proofs.Ticks.{not-0, closes}
 
@@ -104,12 +101,3 @@ demand-3 s r es =
       screen-is-line = screen-is-line s es;
       no-backspace-takes-committed = no-backspace-takes-committed s es;
     }
-
--- Every state that a sequence leaves is well formed,
-pub stays-well-formed : (s : Settings) → in-range s ≡ true → (es : List Event) → well-formed (state s es) ≡ true
-stays-well-formed s r es = is-well-formed s (X s) (W s) (bounds s r) (state s es) r (ran s r es .next)
-
--- so none of its events is refused 2.
-pub never-refused-2 : (s : Settings) → in-range s ≡ true → (es : List Event) (e : Event) → step (state s es) e .number ≢ 2
-never-refused-2 s r es e two =
-    true≢false (sym (stays-well-formed s r es) ∙ refusals (state s es) e .gives-2 .0 two)

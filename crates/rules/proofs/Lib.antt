@@ -8,6 +8,7 @@ pub mod StepFacts
 pub mod Bounds
 pub mod Kept
 pub mod Presses
+pub mod Formed
 pub mod Screen
 pub mod Ticks
 pub mod Demand3

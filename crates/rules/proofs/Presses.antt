@@ -6,8 +6,8 @@ use mathlib.Core.List.{List, [], _∷_, _++_, append-assoc, append-nil, tail-eq-
 use mathlib.Core.Path.{_≡_, refl, sym, _∙_, ap, ap₂, subst}
 use lib.ListN.{length}
 use borrow.Author.Tests.{lt-ltb, le-leb}
-use Rattle.rules.specs.Numbers.{largest-stamp, in-range}
-use Rattle.rules.specs.States.{keys-below, stamps-by, in-order, well-formed}
+use Rattle.rules.specs.Numbers.{largest-stamp}
+use Rattle.rules.specs.States.{keys-below, stamps-by, in-order}
 use Rattle.rules.specs.GivenBack.{Answer, step}
 use Rattle.rules.specs.Sequences.{after, along, Press, keys-of, press-in, items-in, characters, waiting}
 use Rattle.rules.specs.declared.Stamp.{Stamp}
@@ -35,7 +35,7 @@ pub record Answered (m : Machine) (new : List Press) (items : List Item) (after 
   pub answers : keys-of given ≡ characters items
 
 -- the tests of well-formedness that a resting state is held to
-sound-tests : (x w : ℕ) (last : Stamp) (y : Resting) → Sound x w (last .0) y
+pub sound-tests : (x w : ℕ) (last : Stamp) (y : Resting) → Sound x w (last .0) y
     → (keys-below y ≡ true) × (stamps-by last y ≡ true) × (in-order y ≡ true)
 sound-tests x w last S1 h = (refl, refl, refl)
 sound-tests x w last (S2 M m) h = (lt-ltb _ _ (h .0), le-leb _ _ (h .1), refl)
@@ -112,13 +112,6 @@ module _ (s : Settings) (x w : ℕ) (b : Bounds s x w) where
               ∙ sym (characters-append (step m e .items) (along items-in (step m e .machine) es));
         };
       }
-
-  -- such a machine is well formed
-  pub is-well-formed : (m : Machine) → in-range s ≡ true → Resumable s x w m → well-formed m ≡ true
-  unfolding well-formed
-  is-well-formed m r h =
-      let t = sound-tests x w (m .last) (m .resting) (h .sound) in
-      rw (h .same-settings, r, t .0, t .1, le-leb (m .last .0) largest-stamp (h .not-above)) (t .2)
 
 -- what waits is not older than w
 abbrev pub NotOlder : ℕ → ℕ → List Press → Type 0

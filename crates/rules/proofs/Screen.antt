@@ -30,12 +30,12 @@ length-without-last c (d ∷ p) = ap suc (length-without-last d p)
 
 -- Typing.
 
-typed-append : (l : List ℕ) (a b : List Sending) → typed l (a ++ b) ≡ typed (typed l a) b
+pub typed-append : (l : List ℕ) (a b : List Sending) → typed l (a ++ b) ≡ typed (typed l a) b
 typed-append l [] b = refl
 typed-append l (backspace ∷ a) b = typed-append (without-last l) a b
 typed-append l (sign c ∷ a) b = typed-append (l ++ (c ∷ [])) a b
 
-typed-send : (l q : List ℕ) → typed l (send q) ≡ l ++ q
+pub typed-send : (l q : List ℕ) → typed l (send q) ≡ l ++ q
 typed-send l [] = sym (append-nil l)
 typed-send l (c ∷ q) = typed-send (l ++ (c ∷ [])) q ∙ append-assoc l (c ∷ []) q
 

@@ -5,17 +5,18 @@ use mathlib.Core.List.{List, [], _∷_, _++_, append-nil}
 use mathlib.Core.Path.{_≡_, refl, sym, ap}
 use lib.Dec.{eqb}
 use lib.ListN.{length, length-append}
-use borrow.Author.Tests.{eqb-true, eq-eqb}
+use borrow.Author.Tests.{eqb-true, eqb-false, eq-eqb}
 use Rattle.rules.specs.States.{lag, deadline}
 use Rattle.rules.specs.OneEvent.{Done, mark, same-thumb, same-key, second-character-takes-thumb, second-thumb-takes-character, short-overlap, late, act, due-by, settle, one-event}
 use Rattle.rules.specs.ZeroDelay.{character, sign-of, signs, shown, Sending, backspace, send, take-back, sent}
 use Rattle.rules.specs.Layout.{code-point}
 use Rattle.rules.specs.GivenBack.{Answer}
 use Rattle.rules.specs.Demand3.{Begins}
-use Rattle.rules.specs.StepFacts.{StepSizes, SendingRule, OneShown}
+use Rattle.rules.specs.StepFacts.{StepSizes, SendingRule, NoneIs0, Sendable, plainly, behind-backspace, StepSendable, OneShown}
 use Rattle.rules.specs.declared.Stamp.{Stamp}
 use Rattle.rules.specs.declared.Key.{Key}
 use Rattle.rules.specs.declared.Thumb.{Thumb}
+use Rattle.rules.specs.declared.Thumb.the-variants.{Left, Right}
 use Rattle.rules.specs.declared.Settings.{Settings}
 use Rattle.rules.specs.declared.Face.{Face}
 use Rattle.rules.specs.declared.Face.the-variants.{Plain, With}
@@ -180,6 +181,51 @@ step-sizes m e =
         let behind = one-shown (d .resting) in
         let committed = signs-few (d .items) in
         omega (arith, length-append (signs (d .items)) (shown (d .resting)))
+
+-- What is sent has room in a flag and three words.
+
+none-0-append : (a b : List ℕ) → NoneIs0 a → NoneIs0 b → NoneIs0 (a ++ b)
+none-0-append [] b h g = g
+none-0-append (c ∷ a) b h g = (h .0, none-0-append a b (h .1) g)
+
+character-not-0 : (k : Key) (f : Face) → NoneIs0 (character k f)
+unfolding character
+character-not-0 k f = by-test NoneIs0 (eqb (code-point k f) 0) (λ _. tt) (λ n. (eqb-false _ _ n, tt))
+
+signs-not-0 : (l : List Item) → NoneIs0 (signs l)
+signs-not-0 [] = tt
+signs-not-0 (Character k f ∷ l) = none-0-append (character k f) (signs l) (character-not-0 k f) (signs-not-0 l)
+signs-not-0 (Mark Left ∷ l) = ((λ z. omega arith), signs-not-0 l)
+signs-not-0 (Mark Right ∷ l) = ((λ z. omega arith), signs-not-0 l)
+
+shown-not-0 : (y : Resting) → NoneIs0 (shown y)
+shown-not-0 S1 = tt
+shown-not-0 (S2 M m) = character-not-0 M Plain
+shown-not-0 (S3 O o) = tt
+shown-not-0 (S4 M m O o) = character-not-0 M Plain
+shown-not-0 (S5 O o M m) = character-not-0 M (With O)
+shown-not-0 (S6 O o M m r) = character-not-0 M (With O)
+
+sent-sendable : (p q : List ℕ) → length p ≤ 1 → length q ≤ 3 → NoneIs0 q → Sendable (sent p q)
+unfolding sent
+sent-sendable [] q one few n = plainly q few n
+sent-sendable (c ∷ []) [] one few n = behind-backspace [] (omega arith) tt
+sent-sendable (c ∷ []) (d ∷ q) one few n =
+    both-ways Sendable (eqb c d) (plainly q (omega arith) (n .1)) (behind-backspace (d ∷ q) few n)
+sent-sendable (c ∷ b ∷ p) q one few n = absurd (omega arith)
+
+pub step-sendable : (m : Machine) (e : Event) → StepSendable m e
+step-sendable m e =
+    step-cases (λ (r : Answer). Sendable (r .sendings)) m e (λ _ _. plainly [] (omega arith) tt)
+    (λ i _. by (one-event (m .settings) (e .stamp) (m .resting) i) (one-event-few (m .settings) (e .stamp) (m .resting) i))
+  where
+    by : (d : Done) → Few d → Sendable (sent (shown (m .resting)) (signs (d .items) ++ shown (d .resting)))
+    by d few =
+        let behind = one-shown (d .resting) in
+        let committed = signs-few (d .items) in
+        sent-sendable (shown (m .resting)) (signs (d .items) ++ shown (d .resting)) (one-shown (m .resting))
+        (omega (arith, length-append (signs (d .items)) (shown (d .resting))))
+        (none-0-append (signs (d .items)) (shown (d .resting)) (signs-not-0 (d .items)) (shown-not-0 (d .resting)))
 
 -- The three cases of what is sent.
 pub sending-rule : (p : ℕ) (q : List ℕ) → SendingRule p q

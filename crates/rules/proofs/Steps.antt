@@ -10,7 +10,7 @@ use Rattle.rules.specs.Choice.{if_then_else_}
 use Rattle.rules.specs.Numbers.{keys, largest-stamp, within}
 use Rattle.rules.specs.States.{is-key, well-formed}
 use Rattle.rules.specs.OneEvent.{one-event}
-use Rattle.rules.specs.GivenBack.{with-character, with-thumb, with-0, input, judge, judge-input, Answer, refusal, acceptance, answer, step}
+use Rattle.rules.specs.GivenBack.{with-character, with-thumb, with-0, input, Verdict, refused, accepted, judge, judge-input, Answer, refusal, acceptance, answer, step}
 use Rattle.rules.specs.Sequences.{Press, press}
 use Rattle.rules.specs.declared.Stamp.{Stamp}
 use Rattle.rules.specs.declared.Key.{Key}
@@ -98,23 +98,22 @@ pub record Accepted (m : Machine) (e : Event) (i : Input) : Type 0 where
   pub not-above : e .stamp .0 ≤ largest-stamp
   pub not-before : m .last .0 ≤ e .stamp .0
 
-pub step-cases :
-    (P : Answer → Type 0) (m : Machine) (e : Event)
-    → ((n : ℕ) → eqb n 0 ≡ false → P (refusal m n))
-    → ((i : Input) → Accepted m e i → P (acceptance m (e .stamp) (one-event (m .settings) (e .stamp) (m .resting) i)))
-    → P (step m e)
-unfolding step judge
-step-cases P m e no-way yes-way =
-    by-test (λ v. P (answer m (e .stamp) v)) (well-formed m)
-    (λ w. on-input w (input (e .kind) (e .key)) refl (parses (e .kind) (e .key)))
-    (λ _. no-way 2 refl)
+-- by the verdict: refused, or accepted with all that was tested
+pub judge-cases :
+    (P : Verdict → Type 0) (m : Machine) (e : Event)
+    → ((n : ℕ) → eqb n 0 ≡ false → P (refused n))
+    → ((i : Input) → Accepted m e i → P (accepted i))
+    → P (judge m e)
+unfolding judge
+judge-cases P m e no-way yes-way =
+    by-test P (well-formed m) (λ w. on-input w (input (e .kind) (e .key)) refl (parses (e .kind) (e .key))) (λ _. no-way 2 refl)
   where
     on-input : well-formed m ≡ true → (o : Option Input) → input (e .kind) (e .key) ≡ o → Allowed (e .kind) (e .key) o
-        → P (answer m (e .stamp) (judge-input (m .last) (e .stamp) o))
+        → P (judge-input (m .last) (e .stamp) o)
     on-input w none h not-allowed = no-way 3 refl
     on-input w (some i) h (allowed a) =
-        by-test (λ v. P (answer m (e .stamp) v)) (ltb largest-stamp (e .stamp .0)) (λ _. no-way 4 refl)
-        (λ low. by-test (λ v. P (answer m (e .stamp) v)) (ltb (e .stamp .0) (m .last .0)) (λ _. no-way 5 refl)
+        by-test P (ltb largest-stamp (e .stamp .0)) (λ _. no-way 4 refl)
+        (λ low. by-test P (ltb (e .stamp .0) (m .last .0)) (λ _. no-way 5 refl)
         (λ late. yes-way i (record {
           was-well-formed = w;
           is-input = h;
@@ -122,6 +121,14 @@ step-cases P m e no-way yes-way =
           not-above = ltb-false _ _ low;
           not-before = ltb-false _ _ late;
         })))
+
+pub step-cases :
+    (P : Answer → Type 0) (m : Machine) (e : Event)
+    → ((n : ℕ) → eqb n 0 ≡ false → P (refusal m n))
+    → ((i : Input) → Accepted m e i → P (acceptance m (e .stamp) (one-event (m .settings) (e .stamp) (m .resting) i)))
+    → P (step m e)
+unfolding step
+step-cases P m e no-way yes-way = judge-cases (λ v. P (answer m (e .stamp) v)) m e no-way yes-way
 
 -- an event that passes every test is accepted
 pub step-accepted : (m : Machine) (e : Event) (i : Input) → well-formed m ≡ true → input (e .kind) (e .key) ≡ some i

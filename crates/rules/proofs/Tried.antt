@@ -16,7 +16,7 @@ use Rattle.rules.specs.ZeroDelay.{character, sent, sign}
 use Rattle.rules.specs.GivenBack.{input, judge, step}
 use Rattle.rules.specs.Sequences.{press, characters, state, presses, items, line, screen}
 use Rattle.rules.specs.Demand3.{with-event, SameText, TakesNothing}
-use Rattle.rules.specs.Examples.{usual, with-solo, か, が}
+use Rattle.rules.specs.Examples.{usual, with-solo, が}
 use Rattle.rules.specs.declared.Event.{Event}
 use Rattle.rules.proofs.Demand3.{demand-3}
 

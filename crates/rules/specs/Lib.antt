@@ -10,6 +10,7 @@ pub mod Refusals
 pub mod Sequences
 pub mod Demand3
 pub mod StepFacts
+pub mod SequenceFacts
 pub mod Distance
 pub mod DistanceFacts
 pub mod Examples

@@ -50,6 +50,10 @@ keys-of (p ∷ ps) = p .key ∷ keys-of ps
 abbrev pub press-in : Event → Answer → List Press
 press-in e r = if is-accepted r && eqb (e .kind) 1 then (press (e .key) (e .stamp) ∷ []) else []
 
+-- the event itself, if it was accepted
+abbrev pub accepted-in : Event → Answer → List Event
+accepted-in e r = if is-accepted r then (e ∷ []) else []
+
 -- kinds 1 to 5 are key events; whether one is accepted is not a matter of demand 3
 abbrev pub key-event-in : Event → Answer → List Event
 key-event-in e r = if is-accepted r && within 1 5 (e .kind) then (e ∷ []) else []
@@ -100,6 +104,9 @@ module _ (s : Settings) (es : List Event) where
 
   abbrev pub presses : List Press
   presses = along press-in (fresh s) es
+
+  abbrev pub accepted-events : List Event
+  accepted-events = along accepted-in (fresh s) es
 
   abbrev pub accepted-key-events : List Event
   accepted-key-events = along key-event-in (fresh s) es

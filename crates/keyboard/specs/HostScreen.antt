@@ -1,0 +1,61 @@
+-- What a C host reads off the numbers of a step, and what it makes of them by the rule of include/trabeculon.h: that nothing which
+-- a step sends or commits is lost on the way. The proofs are in proofs/HostScreen.antt.
+use Prim.Native.Nat.{ℕ}
+use mathlib.Core.List.{List, [], _∷_, _++_, map, foldl}
+use mathlib.Core.Path.{_≡_}
+use lib.Dec.{eqb}
+use lib.ListN.{take}
+use Rattle.rules.specs.Choice.{if_then_else_}
+use Rattle.rules.specs.States.{opening}
+use Rattle.rules.specs.ZeroDelay.{sign-unless-0, shown, Sending, backspace, send}
+use Rattle.rules.specs.GivenBack.{step}
+use Rattle.rules.specs.Sequences.{without-last, state, line}
+use Rattle.rules.specs.declared.Settings.{Settings}
+use Rattle.rules.specs.declared.Machine.{Machine}
+use Rattle.rules.specs.declared.Event.{Event}
+use Rattle.keyboard.specs.declared.StepAnswer.{StepAnswer}
+use Rattle.keyboard.specs.Keyboard.{open-numbers, word-of, answered-numbers}
+use Rattle.keyboard.specs.KeyboardFacts.{KeyboardCalls}
+
+-- those of sent_first, sent_second and sent_third that are not 0
+abbrev pub signs-sent : StepAnswer → List ℕ
+signs-sent r = sign-unless-0 (r .«sent_first») ++ sign-unless-0 (r .«sent_second») ++ sign-unless-0 (r .«sent_third»)
+
+-- those of first and second that are not 0
+abbrev pub signs-committed : StepAnswer → List ℕ
+signs-committed r = sign-unless-0 (r .first) ++ sign-unless-0 (r .second)
+
+-- The header's rule, "Show": take the last sign on the screen back if backspace is 1; then add the signs sent.
+abbrev pub shows : List ℕ → StepAnswer → List ℕ
+shows screen r = (if eqb (r .backspace) 1 then without-last screen else screen) ++ signs-sent r
+
+-- and: the committed line grows by the signs committed
+abbrev pub grows : List ℕ → StepAnswer → List ℕ
+grows line r = line ++ signs-committed r
+
+-- over the answers of all calls, both being empty at the start
+abbrev pub host-screen : List StepAnswer → List ℕ
+host-screen rs = foldl shows [] rs
+
+abbrev pub host-line : List StepAnswer → List ℕ
+host-line rs = foldl grows [] rs
+
+-- what was sent, read off the numbers
+abbrev pub sendings-read : StepAnswer → List Sending
+sendings-read r = (if eqb (r .backspace) 1 then (backspace ∷ []) else []) ++ send (signs-sent r)
+
+-- the words of the items, as many as there are items, 0 for an empty face
+abbrev pub words-read : StepAnswer → List ℕ
+words-read r = take (r .items) (r .first ∷ r .second ∷ [])
+
+pub record HostFacts : Type 0 where
+  -- Of every machine and event: the numbers say all that is sent, and the words of all items.
+  pub sendings-back : (x : Machine) (e : Event) → sendings-read (answered-numbers (step x e)) ≡ step x e .sendings
+  pub words-back : (x : Machine) (e : Event) → words-read (answered-numbers (step x e)) ≡ map word-of (step x e .items)
+  -- Of calls from opening on: the host's line is the committed line, and its screen is that line and what is shown behind it.
+  pub line-is : (s : Settings) → opening s .number ≡ 0 → (es : List Event) (rs : List StepAnswer)
+      → KeyboardCalls (open-numbers (opening s) .machine) es rs
+      → host-line rs ≡ line s es
+  pub screen-is : (s : Settings) → opening s .number ≡ 0 → (es : List Event) (rs : List StepAnswer)
+      → KeyboardCalls (open-numbers (opening s) .machine) es rs
+      → host-screen rs ≡ line s es ++ shown (state s es .resting)
