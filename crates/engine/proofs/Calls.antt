@@ -22,14 +22,14 @@ use Rattle.engine.specs.declared.Stepped.{Stepped}
 
 calls-after : {m : Machine} {es : List Event} {rs : List Stepped} → Calls m es rs → last-machine m rs ≡ after m es
 calls-after no-more = refl
-calls-after (call {es = es} h c) = calls-after c ∙ ap (λ (a : Answer). after (a .machine) es) h
+calls-after (call {es = es} h c) = calls-after c ∙ ap (λ (a : Answer). after (a .machine) es) (h .answer)
 
 calls-along : {X : Type 0} (f : Event → Answer → List X) {m : Machine} {es : List Event} {rs : List Stepped} → Calls m es rs
     → along-calls f es rs ≡ along f m es
 calls-along f no-more = refl
 calls-along f (call {e = e} {r = r} {es = es} h c) =
     ap (λ (l : List _). f e (stepped r) ++ l) (calls-along f c)
-    ∙ ap (λ (a : Answer). f e a ++ along f (a .machine) es) h
+    ∙ ap (λ (a : Answer). f e a ++ along f (a .machine) es) (h .answer)
 
 -- what a machine that was opened is
 record FreshInRange (s : Settings) (m : Machine) : Type 0 where

@@ -1,6 +1,6 @@
--- What a caller of `Machine::open` and `engine::step` sees. Each clause below follows from the contract of one of the two functions, and both
--- hold at every input, so a caller's own sequence of calls is a `CodeRun`, whatever the settings and the events are. Of every
--- `CodeRun` the record at the end is proved, in proofs/Calls.antt.
+-- What a caller of `Machine::open` and `engine::step` sees. Each clause below is the contract of one of the two functions, in its own
+-- words, and both hold at every input, so a caller's own sequence of calls is a `CodeRun`, whatever the settings and the events are.
+-- Of every `CodeRun` the record at the end is proved, in proofs/Calls.antt.
 use mathlib.Core.Path.{_≡_}
 use mathlib.Core.Bool.{true}
 use mathlib.Core.List.{List, [], _∷_, _++_}
@@ -13,17 +13,18 @@ use Rattle.rules.specs.declared.Settings.{Settings}
 use Rattle.rules.specs.declared.Machine.{Machine}
 use Rattle.rules.specs.declared.Opened.the-variants.{Ready}
 use Rattle.rules.specs.declared.Event.{Event}
-use Rattle.engine.specs.Views.{stepped}
+use Rattle.engine.specs.Views.{stepped, Gives}
 use Rattle.engine.specs.declared.Stepped.{Stepped}
 
--- calls of `engine::step`, each with the machine that the one before gave back: what each answers
+-- Calls of `engine::step`, each with the machine that the one before gave back: what each answers, by the contract
+-- `Gives r (step machine event)`.
 pub data Calls : Machine → List Event → List Stepped → Type 0 where
   no-more : {m : Machine} → Calls m [] []
-  call : {m : Machine} {e : Event} {r : Stepped} {es : List Event} {rs : List Stepped} → stepped r ≡ step m e
+  call : {m : Machine} {e : Event} {r : Stepped} {es : List Event} {rs : List Stepped} → Gives r (step m e)
       → Calls (r .machine) es rs
       → Calls m (e ∷ es) (r ∷ rs)
 
--- a machine that `Machine::open` gave for settings s, and calls from it
+-- A machine that `Machine::open` gave for settings s, by the contract `opened r ≡ opening settings`, and calls from it.
 pub record CodeRun (s : Settings) (m : Machine) (es : List Event) (rs : List Stepped) : Type 0 where
   pub machine-opened : opened (Ready m) ≡ opening s
   pub calls : Calls m es rs

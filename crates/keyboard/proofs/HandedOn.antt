@@ -3,7 +3,7 @@ use native.Mathlib.Omega.{arith}
 use mathlib.Core.List.{List, map}
 use mathlib.Core.Logic.{_≢_}
 use mathlib.Core.Option.{Option, none, some}
-use mathlib.Core.Path.{_≡_, refl, ap, _∙_}
+use mathlib.Core.Path.{_≡_, refl, sym, ap, _∙_}
 use Rattle.rules.specs.Numbers.{in-range}
 use Rattle.rules.specs.States.{fresh, Opening, opening}
 use Rattle.rules.specs.GivenBack.{Verdict, refused, accepted, judge, answer, step}
@@ -12,12 +12,14 @@ use Rattle.rules.specs.declared.Settings.{Settings}
 use Rattle.rules.specs.declared.Machine.{Machine}
 use Rattle.rules.specs.declared.Event.{Event}
 use Rattle.rules.proofs.Choices.{both-ways}
+use Rattle.rules.proofs.Formed.{stays-formed}
 use Rattle.flat.specs.Fields.{flat, resting-named, named}
 use Rattle.flat.specs.declared.Flat.{Flat}
 use Rattle.flat.proofs.RoundTrip.{loses-nothing}
-use Rattle.keyboard.specs.Keyboard.{no-machine, numbers-of, open-numbers, answered-numbers, refused-numbers, step-named, step-numbers}
+use Rattle.keyboard.specs.Keyboard.{event-of, no-machine, numbers-of, answered-numbers, refused-numbers, step-named, step-numbers}
+use Rattle.keyboard.specs.declared.OpenAnswer.{OpenAnswer}
 use Rattle.keyboard.specs.declared.StepAnswer.{StepAnswer}
-use Rattle.keyboard.specs.KeyboardFacts.{KeyboardCalls, no-more, call, last-numbers, answers, KeyboardFacts}
+use Rattle.keyboard.specs.KeyboardFacts.{KeyboardCalls, no-more, call, KeyboardRun, last-numbers, answers, formed-named, formed-numbers, KeyboardFacts}
 
 -- there is no state 0
 names-none : named no-machine ≡ none
@@ -48,7 +50,7 @@ refuses f e = go (named f) refl
     go (some x) h k = by-verdict f x e (loses-nothing .one-form f x h) (judge x e) k
 
 -- a call at numbers that name a machine
-call-answers : (f : Flat) (x : Machine) (e : Event) → named f ≡ some x → step-numbers f e ≡ answered-numbers (step x e)
+pub call-answers : (f : Flat) (x : Machine) (e : Event) → named f ≡ some x → step-numbers f e ≡ answered-numbers (step x e)
 unfolding step-numbers
 call-answers f x e h = rw h
 
@@ -56,7 +58,8 @@ call-answers f x e h = rw h
 runs-from : {f : Flat} {es : List Event} {rs : List StepAnswer} (x : Machine) → named f ≡ some x → KeyboardCalls f es rs
     → (rs ≡ map answered-numbers (answers x es)) × (named (last-numbers f rs) ≡ some (after x es))
 runs-from x h no-more = (refl, h)
-runs-from x h (call {f = f} {e = e} {r = r} same more) =
+runs-from x h (call {f = f} {kind = kind} {key = key} {stamp = stamp} {r = r} same more) =
+    let e = event-of kind key stamp in
     let here : r ≡ answered-numbers (step x e) = same ∙ call-answers f x e h in
     let rest = runs-from (step x e .machine) (ap (λ (a : StepAnswer). named (a .machine)) same ∙ steps-on f x e h) more in
     (rw (here, rest .0), rest .1)
@@ -67,10 +70,21 @@ unfolding opening
 opened-fresh s =
     both-ways (λ (o : Opening). o .number ≡ 0 → o .machine ≡ some (fresh s)) (in-range s) (λ _. refl) (λ z. absurd (omega arith))
 
-from-opening : (s : Settings) → opening s .number ≡ 0 → (es : List Event) (rs : List StepAnswer)
-    → KeyboardCalls (open-numbers (opening s) .machine) es rs
-    → (rs ≡ map answered-numbers (answers (fresh s) es)) × (named (last-numbers (open-numbers (opening s) .machine) rs) ≡ some (state s es))
-from-opening s z es rs calls = runs-from (fresh s) (numbers-name (opening s .machine) ∙ opened-fresh s z) calls
+from-opening : {s : Settings} {first : OpenAnswer} {es : List Event} {rs : List StepAnswer} → KeyboardRun s first es rs
+    → (rs ≡ map answered-numbers (answers (fresh s) es)) × (named (last-numbers (first .machine) rs) ≡ some (state s es))
+from-opening {s} run =
+    let same = run .opened-as in
+    let zero : opening s .number ≡ 0 = sym (ap (λ (a : OpenAnswer). a .number) same) ∙ run .opened-well in
+    let names = ap (λ (a : OpenAnswer). named (a .machine)) same ∙ numbers-name (opening s .machine) ∙ opened-fresh s zero in
+    runs-from (fresh s) names (run .calls)
+
+keeps-formed : (f : Flat) (e : Event) → formed-numbers (step-numbers f e .machine) ≡ formed-numbers f
+unfolding step-numbers
+keeps-formed f e = go (named f) refl
+  where
+    go : (y : Option Machine) → named f ≡ y → formed-numbers (step-named f e y .machine) ≡ formed-named y
+    go none h = ap formed-named h
+    go (some x) h = ap formed-named (loses-nothing .back (step x e .machine)) ∙ stays-formed x e
 
 pub keyboard-facts : KeyboardFacts
 keyboard-facts =
@@ -78,6 +92,7 @@ keyboard-facts =
       opens = λ s. numbers-name (opening s .machine);
       steps-on = steps-on;
       refuses = refuses;
-      runs = λ s z es rs calls. from-opening s z es rs calls .0;
-      names-last = λ s z es rs calls. from-opening s z es rs calls .1;
+      runs = λ run. from-opening run .0;
+      names-last = λ run. from-opening run .1;
+      keeps-formed = keeps-formed;
     }

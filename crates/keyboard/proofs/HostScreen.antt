@@ -95,7 +95,7 @@ host-facts =
     record {
       sendings-back = sendings-back;
       words-back = λ x e. words-back (step x e .items) (step-sizes x e .at-most-2-items);
-      line-is = λ s z es rs calls. ap (foldl grows []) (keyboard-facts .runs s z es rs calls) ∙ grows-all [] (fresh s) es;
-      screen-is = λ s z es rs calls.
-          ap (foldl shows []) (keyboard-facts .runs s z es rs calls) ∙ shows-all [] (fresh s) es ∙ run-shows [] (fresh s) es;
+      line-is = λ {s} {first} {es} run. ap (foldl grows []) (keyboard-facts .runs run) ∙ grows-all [] (fresh s) es;
+      screen-is = λ {s} {first} {es} run.
+          ap (foldl shows []) (keyboard-facts .runs run) ∙ shows-all [] (fresh s) es ∙ run-shows [] (fresh s) es;
     }

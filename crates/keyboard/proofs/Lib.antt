@@ -1,3 +1,4 @@
 mod Numbered
 pub mod HandedOn
 pub mod HostScreen
+pub mod DistanceNumbers

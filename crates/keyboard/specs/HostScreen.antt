@@ -6,16 +6,16 @@ use mathlib.Core.Path.{_≡_}
 use lib.Dec.{eqb}
 use lib.ListN.{take}
 use Rattle.rules.specs.Choice.{if_then_else_}
-use Rattle.rules.specs.States.{opening}
 use Rattle.rules.specs.ZeroDelay.{sign-unless-0, shown, Sending, backspace, send}
 use Rattle.rules.specs.GivenBack.{step}
 use Rattle.rules.specs.Sequences.{without-last, state, line}
 use Rattle.rules.specs.declared.Settings.{Settings}
 use Rattle.rules.specs.declared.Machine.{Machine}
 use Rattle.rules.specs.declared.Event.{Event}
+use Rattle.keyboard.specs.declared.OpenAnswer.{OpenAnswer}
 use Rattle.keyboard.specs.declared.StepAnswer.{StepAnswer}
-use Rattle.keyboard.specs.Keyboard.{open-numbers, word-of, answered-numbers}
-use Rattle.keyboard.specs.KeyboardFacts.{KeyboardCalls}
+use Rattle.keyboard.specs.Keyboard.{word-of, answered-numbers}
+use Rattle.keyboard.specs.KeyboardFacts.{KeyboardRun}
 
 -- those of sent_first, sent_second and sent_third that are not 0
 abbrev pub signs-sent : StepAnswer → List ℕ
@@ -53,9 +53,7 @@ pub record HostFacts : Type 0 where
   pub sendings-back : (x : Machine) (e : Event) → sendings-read (answered-numbers (step x e)) ≡ step x e .sendings
   pub words-back : (x : Machine) (e : Event) → words-read (answered-numbers (step x e)) ≡ map word-of (step x e .items)
   -- Of calls from opening on: the host's line is the committed line, and its screen is that line and what is shown behind it.
-  pub line-is : (s : Settings) → opening s .number ≡ 0 → (es : List Event) (rs : List StepAnswer)
-      → KeyboardCalls (open-numbers (opening s) .machine) es rs
+  pub line-is : {s : Settings} {first : OpenAnswer} {es : List Event} {rs : List StepAnswer} → KeyboardRun s first es rs
       → host-line rs ≡ line s es
-  pub screen-is : (s : Settings) → opening s .number ≡ 0 → (es : List Event) (rs : List StepAnswer)
-      → KeyboardCalls (open-numbers (opening s) .machine) es rs
+  pub screen-is : {s : Settings} {first : OpenAnswer} {es : List Event} {rs : List StepAnswer} → KeyboardRun s first es rs
       → host-screen rs ≡ line s es ++ shown (state s es .resting)

@@ -1,10 +1,13 @@
 -- What a C host leans on when it hands a keyboard's numbers from call to call (Keyboard.antt). The proofs are in
 -- proofs/HandedOn.antt.
+use Prim.Native.Nat.{ℕ}
+use mathlib.Core.Bool.{Bool, false}
 use mathlib.Core.List.{List, [], _∷_, map}
 use mathlib.Core.Logic.{_≢_}
-use mathlib.Core.Option.{some}
+use mathlib.Core.Option.{Option, none, some}
 use mathlib.Core.Path.{_≡_}
-use Rattle.rules.specs.States.{fresh, opening}
+use Rattle.rules.specs.Numbers.{settings-of}
+use Rattle.rules.specs.States.{fresh, well-formed, opening}
 use Rattle.rules.specs.GivenBack.{Answer, step}
 use Rattle.rules.specs.Sequences.{along, state}
 use Rattle.rules.specs.declared.Settings.{Settings}
@@ -12,15 +15,24 @@ use Rattle.rules.specs.declared.Machine.{Machine}
 use Rattle.rules.specs.declared.Event.{Event}
 use Rattle.flat.specs.Fields.{named}
 use Rattle.flat.specs.declared.Flat.{Flat}
+use Rattle.keyboard.specs.declared.OpenAnswer.{OpenAnswer}
 use Rattle.keyboard.specs.declared.StepAnswer.{StepAnswer}
-use Rattle.keyboard.specs.Keyboard.{open-numbers, answered-numbers, refused-numbers, step-numbers}
+use Rattle.keyboard.specs.Keyboard.{event-of, open-numbers, answered-numbers, refused-numbers, step-numbers}
 
--- calls of `trabeculon_step`, each with the machine that the one before gave back: what each answers
+-- Calls of `trabeculon_step`, each with the machine that the one before gave back: what each answers, by the contract of that
+-- function in its own words.
 pub data KeyboardCalls : Flat → List Event → List StepAnswer → Type 0 where
   no-more : {f : Flat} → KeyboardCalls f [] []
-  call : {f : Flat} {e : Event} {r : StepAnswer} {es : List Event} {rs : List StepAnswer} → r ≡ step-numbers f e
+  call : {f : Flat} {kind key stamp : ℕ} {r : StepAnswer} {es : List Event} {rs : List StepAnswer}
+      → r ≡ step-numbers f (event-of kind key stamp)
       → KeyboardCalls (r .machine) es rs
-      → KeyboardCalls f (e ∷ es) (r ∷ rs)
+      → KeyboardCalls f (event-of kind key stamp ∷ es) (r ∷ rs)
+
+-- What `trabeculon_open` answers for settings s beside number 0, by its contract, and calls from the machine that it gives.
+pub record KeyboardRun (s : Settings) (first : OpenAnswer) (es : List Event) (rs : List StepAnswer) : Type 0 where
+  pub opened-as : first ≡ open-numbers (opening (settings-of (s .t) (s .j) (s .l) (s .solo)))
+  pub opened-well : first .number ≡ 0
+  pub calls : KeyboardCalls (first .machine) es rs
 
 -- the machine that the last call gave back
 abbrev pub last-numbers : Flat → List StepAnswer → Flat
@@ -31,6 +43,14 @@ last-numbers f (r ∷ rs) = last-numbers (r .machine) rs
 abbrev pub answers : Machine → List Event → List Answer
 answers x es = along (λ e a. a ∷ []) x es
 
+-- numbers that name a machine which is well formed: no others are accepted
+abbrev pub formed-named : Option Machine → Bool
+formed-named none = false
+formed-named (some x) = well-formed x
+
+abbrev pub formed-numbers : Flat → Bool
+formed-numbers f = formed-named (named f)
+
 pub record KeyboardFacts : Type 0 where
   -- The numbers that opening gives name the machine that it opened, or none if the settings are refused.
   pub opens : (s : Settings) → named (open-numbers (opening s) .machine) ≡ opening s .machine
@@ -40,10 +60,11 @@ pub record KeyboardFacts : Type 0 where
   pub refuses : (f : Flat) (e : Event) → step-numbers f e .number ≢ 0 → step-numbers f e ≡ refused-numbers f (step-numbers f e .number)
   -- Calls from a machine that was opened are answered as document 01 answers the same events from a fresh state. Of those answers
   -- demand 3 speaks.
-  pub runs : (s : Settings) → opening s .number ≡ 0 → (es : List Event) (rs : List StepAnswer)
-      → KeyboardCalls (open-numbers (opening s) .machine) es rs
+  pub runs : {s : Settings} {first : OpenAnswer} {es : List Event} {rs : List StepAnswer} → KeyboardRun s first es rs
       → rs ≡ map answered-numbers (answers (fresh s) es)
   -- The numbers that the last of them gave back name the state that the events leave.
-  pub names-last : (s : Settings) → opening s .number ≡ 0 → (es : List Event) (rs : List StepAnswer)
-      → KeyboardCalls (open-numbers (opening s) .machine) es rs
-      → named (last-numbers (open-numbers (opening s) .machine) rs) ≡ some (state s es)
+  pub names-last : {s : Settings} {first : OpenAnswer} {es : List Event} {rs : List StepAnswer} → KeyboardRun s first es rs
+      → named (last-numbers (first .machine) rs) ≡ some (state s es)
+  -- An event leaves numbers as well formed as they were. So a host may save the numbers of a machine that it was given, and go on
+  -- with them later.
+  pub keeps-formed : (f : Flat) (e : Event) → formed-numbers (step-numbers f e .machine) ≡ formed-numbers f

@@ -1,3 +1,4 @@
 pub mod Keyboard
 pub mod KeyboardFacts
 pub mod HostScreen
+pub mod DistanceNumbers

@@ -1,0 +1,90 @@
+-- What a C host leans on when it asks for the distance: the laws of document 02, 3/12, of the numbers that it hands over and gets.
+-- The proofs are in proofs/DistanceNumbers.antt.
+use Prim.Native.Nat.{ℕ, _+_, _≤_, _<_}
+use mathlib.Core.Logic.{_≢_}
+use mathlib.Core.Path.{_≡_}
+use lib.Dec.{eqb}
+use lib.IntN.{pos, _-ℤ_}
+use Rattle.rules.specs.Choice.{if_then_else_}
+use Rattle.rules.specs.Numbers.{largest-stamp}
+use Rattle.rules.specs.States.{later}
+use Rattle.rules.specs.DistanceFacts.{IsDue, late-line}
+use Rattle.rules.specs.declared.Stamp.{Stamp}
+use Rattle.rules.specs.declared.Machine.{Machine}
+use Rattle.rules.specs.declared.Event.{Event}
+use Rattle.flat.specs.declared.Flat.{Flat}
+use Rattle.keyboard.specs.declared.StepAnswer.{StepAnswer}
+use Rattle.keyboard.specs.declared.DistanceAnswer.{DistanceAnswer}
+use Rattle.keyboard.specs.Keyboard.{event-of, answered-numbers, refused-numbers, step-numbers, distance-numbers}
+
+-- a tick as C hands it over: kind 6, key 0
+abbrev pub tick-at : Stamp → Event
+tick-at t = event-of 6 0 (t .0)
+
+-- there is a deadline, and it is due now or overdue
+abbrev pub SaysDue : DistanceAnswer → Type 0
+SaysDue r = (r .deadline ≡ 1) × IsDue (r .milliseconds)
+
+-- there is a deadline, in n milliseconds
+abbrev pub SaysIn : DistanceAnswer → ℕ → Type 0
+SaysIn r n = (r .deadline ≡ 1) × (r .milliseconds ≡ pos n)
+
+-- there is no deadline
+abbrev pub SaysNone : DistanceAnswer → Type 0
+SaysNone r = r .deadline ≡ 0
+
+-- the answer d milliseconds later
+abbrev pub told-later : DistanceAnswer → ℕ → DistanceAnswer
+told-later r d =
+    record {
+      number = r .number;
+      deadline = r .deadline;
+      milliseconds = if eqb (r .deadline) 1 then r .milliseconds -ℤ pos d else r .milliseconds;
+    }
+
+abbrev pub with-last : Flat → Stamp → Flat
+with-last f t =
+    record {
+      last = t .0;
+      m = f .m;
+      o = f .o;
+      r = f .r;
+      t = f .t;
+      j = f .j;
+      l = f .l;
+      solo = f .solo;
+      state = f .state;
+      key = f .key;
+      thumb = f .thumb;
+    }
+
+-- an accepted event that commits nothing, sends nothing and changes only the last stamp
+abbrev pub only-last-numbers : Flat → Stamp → StepAnswer
+only-last-numbers f t = refused-numbers (with-last f t) 0
+
+-- an accepted event that does the line "late" of the machine, and nothing else
+abbrev pub late-numbers : Machine → Stamp → StepAnswer
+late-numbers x t = answered-numbers (late-line x t)
+
+-- Of every numbers f that name a machine x, and every stamp now at which asking is answered.
+pub record DistanceNumbers (f : Flat) (x : Machine) (now : Stamp) : Type 0 where
+  -- a tick at the asked stamp commits something if and only if the answer is 0 or negative, and what it does is the line "late"
+  pub due-commits : SaysDue (distance-numbers f now) → step-numbers f (tick-at now) .items ≢ 0
+  pub commits-due : step-numbers f (tick-at now) .items ≢ 0 → SaysDue (distance-numbers f now)
+  pub due-is-late : SaysDue (distance-numbers f now) → step-numbers f (tick-at now) ≡ late-numbers x now
+  -- asked d milliseconds later, the answer is d less
+  pub later-is-less : (d : ℕ) → now .0 + d ≤ largest-stamp
+      → distance-numbers f (later now d) ≡ told-later (distance-numbers f now) d
+  -- n milliseconds are left: an accepted tick before that changes only the last stamp, and one at exactly n does the late line
+  pub early-tick : (n : ℕ) → SaysIn (distance-numbers f now) n → (t : Stamp) → t .0 < now .0 + n
+      → step-numbers f (tick-at t) .number ≡ 0
+      → step-numbers f (tick-at t) ≡ only-last-numbers f t
+  pub tick-on-time : (n : ℕ) → SaysIn (distance-numbers f now) n → now .0 + n ≤ largest-stamp
+      → step-numbers f (tick-at (later now n)) ≡ late-numbers x (later now n)
+  -- no deadline: no accepted tick changes more than the last stamp
+  pub never-due : SaysNone (distance-numbers f now) → (t : Stamp) → step-numbers f (tick-at t) .number ≡ 0
+      → step-numbers f (tick-at t) ≡ only-last-numbers f t
+
+-- Of all numbers and stamps: asking is refused as a tick with that stamp is.
+abbrev pub SameRefusedNumbers : Flat → Stamp → Type 0
+SameRefusedNumbers f now = distance-numbers f now .number ≡ step-numbers f (tick-at now) .number
