@@ -1,9 +1,20 @@
 /*
- * Trabeculon: a proved key-timing engine for NICOLA thumb-shift keyboards.
- * This is its face for a C host: five functions over runs and numbers. One reads
- * a log and one writes the log of a line; three drive a live keyboard: one opens
+ * Trabeculon: a proved key-timing engine for NICOLA thumb-shift keyboards. This
+ * is its face for a C host: five functions over runs and numbers. One reads a
+ * log and one writes the log of a line; three drive a live keyboard: one opens
  * a machine, one takes an event, one says how far away the next deadline is.
  * The first two are in libhost.a, the other three in libkeyboard.a.
+ *
+ * Each function is proved equal to a definition, for every input, and to
+ * return. Behind "Proved:" stand the definitions and statements that carry what
+ * is said above, with their files under crates/. docs/RULES.md has the rules in
+ * words, and docs/ASSUMPTIONS.md what is believed and not proved: the compiler,
+ * and that the caller lends what it says. A call needs less than 1 KiB of stack
+ * (measured, tests/stack).
+ *
+ * Keys 0 to 4 are B01 to B05, 5 to 9 B06 to B10, 10 to 14 C01 to C05, 15 to 19
+ * C06 to C10, 20 to 24 D01 to D05, 25 to 30 D06 to D11; so key 21 is D02. Their
+ * faces are in docs/RULES.md.
  */
 #ifndef TRABECULON_H
 #define TRABECULON_H
@@ -19,7 +30,7 @@ extern "C" {
  * What reading a log answers.
  *
  * number   0  every record was accepted
- *          1  settings out of range (T 50 to 1,000, J and L 1 to 99, solo 0 or 1)
+ *          1  settings out of range (T 50 to 1,000; J, L 1 to 99; solo 0 or 1)
  *          2  state not well formed; never given here, since the reader
  *             opens its own state
  *          3  kind or key not allowed
@@ -70,6 +81,12 @@ typedef struct {
  * The caller lends log_len readable bytes at log and out_len writable bytes at
  * out, which don't overlap. Either length may be 0; the pointer is not null
  * even then. No alignment is asked.
+ *
+ * Proved: the answer and the run afterwards (Reads, keylog/specs/Runs.antt,
+ * over Reader.antt); when each number is given and what an accepted record
+ * leaves (RecordRefusals, keylog/specs/RecordRefusals.antt); that the words are
+ * the line of the log's accepted events, and that 2 never comes (LogSequence,
+ * keylog/specs/LogSequence.antt).
  */
 trabeculon_answer trabeculon_read_log(const uint8_t *log, size_t log_len,
                                       uint8_t *out, size_t out_len);
@@ -78,8 +95,7 @@ trabeculon_answer trabeculon_read_log(const uint8_t *log, size_t log_len,
  * What writing a drill answers.
  *
  * number    0   the whole log was written
- *           1   settings out of range (T 50 to 1,000, J and L 1 to 99, solo 0
- *               or 1)
+ *           1   settings out of range (T 50 to 1,000; J, L 1 to 99; solo 0 or 1)
  *           4   the character's stamp, 250 times its position, is above the
  *               largest, 1,000,000,000,000; so position 4,000,000,001 at the
  *               earliest
@@ -102,17 +118,17 @@ typedef struct {
  *
  * The line is line_len words of 16 bits in the host's own byte order, each the
  * code point of a character. The 86 characters of the layout are accepted: kana
- * and signs from U+3000 to U+30FF, the full-width comma U+FF0C and the full-width
- * stop U+FF0E. Every other word is on no face, the words of marks, 1 and 2, and
- * the ideographic space, U+3000, among them.
+ * and signs from U+3000 to U+30FF, the full-width comma U+FF0C and the
+ * full-width stop U+FF0E. Every other word is on no face, the words of marks, 1
+ * and 2, and the ideographic space, U+3000, among them.
  *
- * The log, in the form that trabeculon_read_log reads, is a settings record with
- * t, j, l and solo and then the events of each character, in the line's order.
- * All events of the character at position n have stamp 250 * n. They are, for a
- * character on a plain face: key down, key up; for one on a thumb's face: key
- * down, thumb down, tick, thumb up, key up. The settings take 8 bytes, a plain
- * character 26 and a chord 65; so a run of 8 + 65 * line_len bytes always
- * suffices.
+ * The log, in the form that trabeculon_read_log reads, is a settings record
+ * with t, j, l and solo and then the events of each character, in the line's
+ * order. All events of the character at position n have stamp 250 * n. They
+ * are, for a character on a plain face: key down, key up; for one on a thumb's
+ * face: key down, thumb down, tick, thumb up, key up. The settings take 8
+ * bytes, a plain character 26 and a chord 65; so a run of 8 + 65 * line_len
+ * bytes always suffices.
  *
  * Afterwards:
  *   - if number is 0, the first bytes bytes of out hold the log and every other
@@ -123,12 +139,17 @@ typedef struct {
  *
  * Given those bytes and a run of at least 2 * line_len bytes, whatever the
  * settings, trabeculon_read_log answers number 0, waiting 0, words line_len and
- * offset bytes, and gives the same line (there each word is two bytes, high byte
- * first).
+ * offset bytes, and gives the same line (there each word is two bytes, high
+ * byte first).
  *
- * The caller lends line_len readable words at line, aligned as a uint16_t is, and
- * out_len writable bytes at out, which don't overlap. Either length may be 0; the
- * pointer is not null even then.
+ * The caller lends line_len readable words at line, aligned as a uint16_t is,
+ * and out_len writable bytes at out, which don't overlap. Either length may be
+ * 0; the pointer is not null even then.
+ *
+ * Proved: the answer and the run afterwards (Writes, writer/specs/Writes.antt,
+ * over Drills.antt); the characters (PlaceFacts, lookup/specs/PlaceFacts.antt);
+ * the bytes of each (place-size, writer/specs/Parts.antt); that it reads back
+ * (Round-trip, writer/specs/RoundTrip.antt).
  */
 trabeculon_drill trabeculon_write_drill(uint16_t t, uint8_t j, uint8_t l,
                                         uint8_t solo, const uint16_t *line,
@@ -139,29 +160,36 @@ trabeculon_drill trabeculon_write_drill(uint16_t t, uint8_t j, uint8_t l,
  * A live keyboard: what its host does.
  *
  *   - Once: trabeculon_open with the settings.
- *   - On each event of the keyboard: trabeculon_step with the machine, the event
- *     and its stamp. The machine of the answer takes the place of the old one,
- *     whatever the number; a refused step hands back the one that was given.
+ *   - On each event of the keyboard: trabeculon_step with the machine, the
+ *     event and its stamp. The machine of the answer takes the place of the old
+ *     one, whatever the number; a refused step hands back the one that was
+ *     given.
  *   - Show: take the last sign on the screen back if backspace is 1; then add
  *     those of sent_first, sent_second and sent_third that are not 0.
- *   - The committed line grows by those of first and second that are not 0. They
- *     are on the screen already and are not to be shown once more: after every
- *     step the screen is the committed line and behind it the character that
- *     waits, if one does (one whose face is empty shows nothing).
- *   - Then: trabeculon_distance with the machine and a stamp of the keyboard: the
- *     event's if it was accepted, else the machine's own last, since asking is
- *     refused where a tick with that stamp would be. If number is 0 and there is a
- *     deadline, arrange a tick for when it is due: in so many milliseconds, or at
- *     once if the answer is 0 or negative. A tick is a step with kind 6, key 0 and
- *     the stamp of the keyboard's clock at that time. One too early or too many
- *     does no harm. Nor does a late one or a missing one, but that signs come
- *     late, since every event first does what is due before it. No stamp may run
- *     ahead of the keyboard's clock, or the keyboard's next event comes before it
- *     and is refused 5.
+ *   - The committed line grows by those of first and second that are not 0.
+ *     They are on the screen already and are not to be shown once more: after
+ *     every step the screen is the committed line and behind it the character
+ *     that waits, if one does (one whose face is empty shows nothing).
+ *   - Then: trabeculon_distance with the machine and a stamp of the keyboard:
+ *     the event's if it was accepted, else the machine's own last, since asking
+ *     is refused where a tick with that stamp would be. If number is 0 and
+ *     there is a deadline, arrange a tick for when it is due: in so many
+ *     milliseconds, or at once if the answer is 0 or negative. A tick is a step
+ *     with kind 6, key 0 and the stamp of the keyboard's clock at that time.
+ *     One too early or too many does no harm. Nor does a late one or a missing
+ *     one, but that signs come late, since every event first does what is due
+ *     before it. No stamp may run ahead of the keyboard's clock, or the
+ *     keyboard's next event comes before it and is refused 5.
  *
  * All stamps are milliseconds of the keyboard's own clock, never of the host's.
  * The host keeps the machine. Nothing is kept here between two calls, so any
  * number of keyboards can be driven side by side, each with its own machine.
+ *
+ * Proved, of calls from opening on: each is answered as document 01 answers
+ * that event (KeyboardFacts, keyboard/specs/KeyboardFacts.antt); the screen and
+ * the line (screen-is and line-is in HostFacts,
+ * keyboard/specs/HostScreen.antt); that ticks do no harm, and that a backspace
+ * never takes a committed sign (Demand3, rules/specs/Demand3.antt).
  */
 
 /*
@@ -183,20 +211,25 @@ trabeculon_drill trabeculon_write_drill(uint16_t t, uint8_t j, uint8_t l,
  * key      M, 0 to 30: states 2, 4, 5, 6
  * thumb    O, 0 left, 1 right: states 3, 4, 5, 6
  *
- * A host keeps these numbers and hands them on. It may look into them, and it may
- * save them and go on later. Any numbers may be handed over; those that are no
- * machine are refused:
+ * A host keeps these numbers and hands them on. It may look into them, and it
+ * may save them and go on later. Any numbers may be handed over; those that are
+ * no machine are refused:
  *
- * They name a machine if state is 1 to 6, thumb is 0 or 1 in the states that use
- * it, and every one of m, o, r, key and thumb that the state does not use is 0.
- * That machine is well formed if the settings are in range, key is below 31,
- * every stamp that the state uses is at most last, last is at most
+ * They name a machine if state is 1 to 6, thumb is 0 or 1 in the states that
+ * use it, and every one of m, o, r, key and thumb that the state does not use
+ * is 0. That machine is well formed if the settings are in range, key is below
+ * 31, every stamp that the state uses is at most last, last is at most
  * 1,000,000,000,000, and m <= o in state 4, o <= m in state 5, o <= m <= r in
  * state 6. Numbers that name no machine, or one that is not well formed, are
  * refused 2. The machine that trabeculon_open answers beside number 0 is well
- * formed, and so is every machine that steps from it hand on.
+ * formed, and an accepted event leaves every well-formed machine well formed,
+ * however the host came by it; so numbers that were saved go on without a 2.
  *
  * It is 40 bytes with no padding, so two can be compared byte for byte.
+ *
+ * Proved: every machine has one form in numbers, which names it (LosesNothing,
+ * flat/specs/LosesNothing.antt); events keep it well formed (StaysFormed,
+ * rules/specs/StepFacts.antt). Tested: the 40 bytes (tests/c/live_keyboard.c).
  */
 typedef struct {
     uint64_t last;
@@ -215,10 +248,10 @@ typedef struct {
 /*
  * What opening answers.
  *
- * machine  beside 0: a fresh machine with these settings, state 1 and all else 0.
- *          Beside 1: every number is 0, which names no machine.
+ * machine  beside 0: a fresh machine with these settings, state 1 and all else
+ *          0. Beside 1: every number is 0, which names no machine.
  * number   0  opened
- *          1  settings out of range (T 50 to 1,000, J and L 1 to 99, solo 0 or 1)
+ *          1  settings out of range (T 50 to 1,000; J, L 1 to 99; solo 0 or 1)
  */
 typedef struct {
     trabeculon_machine machine;
@@ -226,8 +259,11 @@ typedef struct {
 } trabeculon_opened;
 
 /*
- * Opens a fresh machine. t is T in milliseconds, j and l are J and L in percent,
- * and solo is 1 if a lone thumb press gives a mark, else 0.
+ * Opens a fresh machine. t is T in milliseconds, j and l are J and L in
+ * percent, and solo is 1 if a lone thumb press gives a mark, else 0.
+ *
+ * Proved: open-numbers (keyboard/specs/Keyboard.antt) of opening
+ * (rules/specs/States.antt).
  */
 trabeculon_opened trabeculon_open(uint16_t t, uint8_t j, uint8_t l, uint8_t solo);
 
@@ -242,13 +278,14 @@ trabeculon_opened trabeculon_open(uint16_t t, uint8_t j, uint8_t l, uint8_t solo
  *              4  stamp above the largest, 1,000,000,000,000
  *              5  stamp before the last accepted one
  *              They are tried in this order; the first that holds is given.
- * items        how many items the event commits, 0 to 2. An item is a character,
- *              one whose face is empty too, or a mark.
+ * items        how many items the event commits, 0 to 2. An item is a
+ *              character, one whose face is empty too, or a mark.
  * first,       the items' words, in order: a character's code point, 1 for the
- * second       left mark, 2 for the right mark, 0 for an empty face. 0 also where
- *              there is no such item.
+ * second       left mark, 2 for the right mark, 0 for an empty face. 0 also
+ *              where there is no such item.
  * backspace    1 if the last sign on the screen is to be taken back first, else
- *              0. That sign is the character that waited, never a committed one.
+ *              0. That sign is the character that waited, never a committed
+ *              one.
  * sent_first,  the signs to be shown then, in order, as words like the items'.
  * sent_second, There are 0 to 3 of them; behind the last stands 0.
  * sent_third
@@ -270,13 +307,22 @@ typedef struct {
 
 /*
  * Takes one event. Kinds and keys are those of a log: 1 character down, 2
- * character up, 3 thumb down, 4 thumb up, 5 function down, 6 tick. Key is 0 to 30
- * for kinds 1 and 2, 0 (left) or 1 (right) for 3 and 4, 0 for 5 and 6. The stamp
- * is the keyboard's.
+ * character up, 3 thumb down, 4 thumb up, 5 function down, 6 tick. Key is 0 to
+ * 30 for kinds 1 and 2, 0 (left) or 1 (right) for 3 and 4, 0 for 5 and 6. The
+ * stamp is the keyboard's.
  *
- * If the machine's deadline is at or before the stamp, what is due is done first,
- * and then the event acts. Stepping through the events of a log that
+ * If the machine's deadline is at or before the stamp, what is due is done
+ * first, and then the event acts. Stepping through the events of a log that
  * trabeculon_read_log accepts commits the words that it writes.
+ *
+ * Proved: step-numbers (keyboard/specs/Keyboard.antt) of step
+ * (rules/specs/GivenBack.antt); when each number is given (Refusals,
+ * rules/specs/Refusals.antt); that the numbers say all that is sent and
+ * committed (sendings-back and words-back in HostFacts,
+ * keyboard/specs/HostScreen.antt); at most 2 items and 4 sendings (StepSizes,
+ * rules/specs/StepFacts.antt). Of the words of a log: words-are in LogSequence
+ * (keylog/specs/LogSequence.antt) and line-is in HostFacts both speak of the
+ * line of the same events.
  */
 trabeculon_stepped trabeculon_step(trabeculon_machine machine, uint8_t kind,
                                    uint8_t key, uint64_t stamp);
@@ -290,8 +336,8 @@ trabeculon_stepped trabeculon_step(trabeculon_machine machine, uint8_t kind,
  *               5  stamp before the last accepted one
  *               They are tried in this order; the first that holds is given.
  * deadline      1 if the machine has a deadline. 0 if it has none: then no tick
- *               is needed before the next event. 0 also beside any number but 0,
- *               which says nothing of a deadline: look at number first.
+ *               is needed before the next event. 0 also beside any number but
+ *               0, which says nothing of a deadline: look at number first.
  * milliseconds  from the stamp to the deadline: positive still to wait, 0 due
  *               now, negative overdue by so many. 0 where deadline is 0.
  */
@@ -306,10 +352,15 @@ typedef struct {
  * clock. Never ask with a stamp of the host's clock: the two have nothing to do
  * with each other.
  *
- * While the answer for a stamp is positive, or that there is no deadline, a tick
- * with that stamp changes only the last stamp; at 0 or below it does what is due.
- * There is no deadline in state 1, one in state 3 only with solo 1, and always
- * one in the other states.
+ * While the answer for a stamp is positive, or that there is no deadline, a
+ * tick with that stamp changes only the last stamp; at 0 or below it does what
+ * is due. There is no deadline in state 1, one in state 3 only with solo 1, and
+ * always one in the other states.
+ *
+ * Proved: distance-numbers (keyboard/specs/Keyboard.antt) of asking
+ * (rules/specs/Distance.antt, over deadline in States.antt); what a tick does,
+ * and that asking is refused as a tick is (DistanceFacts and SameRefusals,
+ * rules/specs/DistanceFacts.antt).
  */
 trabeculon_asked trabeculon_distance(trabeculon_machine machine, uint64_t stamp);
 

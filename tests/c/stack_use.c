@@ -1,0 +1,169 @@
+/*
+ * How much stack the five functions of include/trabeculon.h use. Each is called on
+ * a stack of its own that was filled with a pattern: the deepest byte that changed
+ * says how far it went. The inputs are random ones, right and damaged, so what is
+ * printed is the most that was seen: bytes, with the call itself and what it hands
+ * over and gets back on the stack.
+ *
+ * Link so that no function is bound at its first call (-Wl,-z,now), or the binding's
+ * own stack is counted too.
+ */
+#define _GNU_SOURCE
+#include "trabeculon.h"
+
+#include <stdio.h>
+#include <string.h>
+#include <ucontext.h>
+
+#define STACK_SIZE (64 * 1024)
+#define PATTERN 0xA5
+#define ROUNDS 2000
+#define EVENTS 400
+#define LINE 300
+#define EVENT_LEN 13
+#define SETTINGS_LEN 8
+
+static unsigned char stack[STACK_SIZE] __attribute__((aligned(64)));
+static ucontext_t outside, inside;
+
+/* splitmix64, so that every run tries the same. */
+static uint64_t seed = 1;
+
+static uint64_t below(uint64_t n) {
+    uint64_t z = seed += 0x9e3779b97f4a7c15;
+    z = (z ^ z >> 30) * 0xbf58476d1ce4e5b9;
+    z = (z ^ z >> 27) * 0x94d049bb133111eb;
+    return (z ^ z >> 31) % n;
+}
+
+/* ---- What the calls are given ---- */
+
+static uint16_t t;
+static uint8_t j, l, solo;
+static trabeculon_machine machine;
+static uint8_t kind, key;
+static uint64_t stamp;
+static uint16_t line[LINE];
+static uint8_t log_bytes[SETTINGS_LEN + 65 * LINE];
+static size_t log_len;
+static uint8_t out[4096];
+
+static trabeculon_answer answer;
+static trabeculon_drill drill;
+static trabeculon_opened opened;
+static trabeculon_stepped stepped;
+static trabeculon_asked asked;
+
+static void random_settings(void) {
+    t = 50 + below(952);
+    j = 1 + below(99);
+    l = 1 + below(99);
+    solo = below(2);
+}
+
+static void random_event(void) {
+    kind = 1 + below(6);
+    key = kind < 3 ? below(3) : kind < 5 ? below(2) : 0;
+    stamp += below(4) ? below(1 + t / 2) : below(3);
+    if (below(50) == 0) {
+        key = below(256);
+    }
+}
+
+static void random_log(void) {
+    const uint8_t settings[SETTINGS_LEN] = {1, 0, 5, t >> 8, t & 255, j, l, solo};
+    memcpy(log_bytes, settings, SETTINGS_LEN);
+    log_len = SETTINGS_LEN;
+    stamp = 0;
+    for (int i = 0; i < EVENTS; i++) {
+        random_event();
+        const uint8_t event[5] = {2, 0, 10, kind, kind < 3 ? key % 31 : key % 2};
+        memcpy(log_bytes + log_len, event, sizeof event);
+        for (int place = 0; place < 8; place++) {
+            log_bytes[log_len + 5 + place] = stamp >> 8 * (7 - place);
+        }
+        if (kind > 4) {
+            log_bytes[log_len + 4] = 0;
+        }
+        log_len += EVENT_LEN;
+    }
+    if (below(2)) {
+        log_bytes[below(log_len)] = below(256);
+        log_len -= below(EVENT_LEN);
+    }
+}
+
+static void random_line(void) {
+    for (int i = 0; i < LINE; i++) {
+        line[i] = 0x3041 + below(0x53);
+        while (line[i] == 0x308E || line[i] == 0x3090 || line[i] == 0x3091) {
+            line[i]++;
+        }
+    }
+    if (below(2)) {
+        line[below(LINE)] = below(65536);
+    }
+}
+
+/* ---- The calls, each on the filled stack ---- */
+
+static void no_call(void) {}
+static void call_read_log(void) { answer = trabeculon_read_log(log_bytes, log_len, out, sizeof out); }
+static void call_write_drill(void) {
+    drill = trabeculon_write_drill(t, j, l, solo, line, LINE, log_bytes, sizeof log_bytes);
+}
+static void call_open(void) { opened = trabeculon_open(t, j, l, solo); }
+static void call_step(void) { stepped = trabeculon_step(machine, kind, key, stamp); }
+static void call_distance(void) { asked = trabeculon_distance(machine, stamp); }
+
+static size_t depth_of(void (*call)(void)) {
+    memset(stack, PATTERN, STACK_SIZE);
+    getcontext(&inside);
+    inside.uc_stack.ss_sp = stack;
+    inside.uc_stack.ss_size = STACK_SIZE;
+    inside.uc_link = &outside;
+    makecontext(&inside, call, 0);
+    swapcontext(&outside, &inside);
+    size_t low = 0;
+    while (low < STACK_SIZE && stack[low] == PATTERN) {
+        low++;
+    }
+    return STACK_SIZE - low;
+}
+
+static void deepest(size_t *most, void (*call)(void)) {
+    size_t depth = depth_of(call);
+    if (*most < depth) {
+        *most = depth;
+    }
+}
+
+int main(void) {
+    size_t read_log = 0, write_drill = 0, open = 0, step = 0, distance = 0;
+    size_t refused = 0, commits = 0;
+    for (int round = 0; round < ROUNDS; round++) {
+        random_settings();
+        deepest(&open, call_open);
+        machine = opened.machine;
+        stamp = 0;
+        for (int i = 0; i < 20; i++) {
+            random_event();
+            deepest(&step, call_step);
+            deepest(&distance, call_distance);
+            machine = stepped.machine;
+            refused += stepped.number != 0;
+            commits += stepped.items;
+        }
+        random_log();
+        deepest(&read_log, call_read_log);
+        random_line();
+        deepest(&write_drill, call_write_drill);
+    }
+    size_t none = depth_of(no_call);
+    printf("trabeculon_read_log     %6zu\n", read_log - none);
+    printf("trabeculon_write_drill  %6zu\n", write_drill - none);
+    printf("trabeculon_open         %6zu\n", open - none);
+    printf("trabeculon_step         %6zu\n", step - none);
+    printf("trabeculon_distance     %6zu\n", distance - none);
+    return refused == 0 || commits == 0;
+}
