@@ -19,7 +19,8 @@ use Rattle.runs.proofs.Filling.{stored-both}
 use Rattle.writer.specs.declared.Drilled.{Drilled}
 use Rattle.writer.specs.declared.checks.Verdict.{Verdict}
 use Rattle.writer.specs.declared.checks.Verdict.the-variants as verdicts
-use Rattle.writer.specs.Drills.{settings-record, drill, Refused, judge-character, first-of, first-refused, drilled, judge-room, writing, run-after}
+use Rattle.writer.specs.Drills.{settings-record, drill, Refused, judge-character, first-of, first-refused}
+use Rattle.writer.specs.Drills.{drilled, judge-room, writing, run-after}
 use Rattle.writer.specs.Parts.{line-bytes, verdict}
 use Rattle.writer.specs.Writes.{WritesLog, Writes}
 
@@ -33,7 +34,8 @@ unfolding first-refused
 numbered n [] = tt
 numbered n (c ∷ cs) = by-place (place-of c) (numbered (suc n) cs)
   where
-    by-place : (o : Option Place) → Numbered (first-refused (suc n) cs) → Numbered (first-of (judge-character n o) (first-refused (suc n) cs))
+    by-place : (o : Option Place) → Numbered (first-refused (suc n) cs)
+        → Numbered (first-of (judge-character n o) (first-refused (suc n) cs))
     by-place none later = omega arith
     by-place (some p) later =
         both-ways (λ o. Numbered (first-of o (first-refused (suc n) cs))) (ltb largest-stamp (250 * n)) (omega arith) later
@@ -93,7 +95,8 @@ module _ (s : Settings) (line run : List ℕ) where
       i : in-range s ≡ true
       i = sym tested ∙ is
 
-      pub line-refused : (number position : ℕ) → v ≡ verdicts.Refused number position → r ≡ drilled number 0 position → Writes s line run r run
+      pub line-refused : (number position : ℕ) → v ≡ verdicts.Refused number position → r ≡ drilled number 0 position
+          → Writes s line run r run
       unfolding writing run-after
       line-refused number position e f = by-first (first-refused 0 line) refl (numbered 0 line) (sym judged ∙ e)
         where
@@ -106,16 +109,19 @@ module _ (s : Settings) (line run : List ℕ) where
               let p : position ≡ q .position = cc in
               record { answered = rw (i, g, ← n, ← p) f; left = rw (i, g, ne-eqb (q .number) 0 (λ k. omega arith)) }
 
-      pub line-accepted : (bytes : ℕ) → v ≡ verdicts.Bytes bytes → (after : List ℕ) → WritesLog s line run r after → Writes s line run r after
+      pub line-accepted : (bytes : ℕ) → v ≡ verdicts.Bytes bytes → (after : List ℕ) → WritesLog s line run r after
+          → Writes s line run r after
       unfolding writing run-after
       line-accepted bytes e after w =
-          let fine : first-refused 0 line ≡ none = bytes-are (first-refused 0 line) (8 + length (line-bytes 0 line)) bytes (sym judged ∙ e) .0 in
+          let fine : first-refused 0 line ≡ none =
+          bytes-are (first-refused 0 line) (8 + length (line-bytes 0 line)) bytes (sym judged ∙ e) .0 in
           record {
             answered = rw (i, fine) (w .answered);
             left = rw (i, fine) (by-room (leb (length (drill s line)) (length run)) (w .left));
           }
         where
           by-room : (b : Bool) → after ≡ (if b then filled (drill s line) run else run)
-              → after ≡ (if eqb ((if b then drilled 0 (length (drill s line)) (length line) else drilled 8 0 (length line)) .number) 0 then filled (drill s line) run else run)
+              → after ≡ (if eqb ((if b then drilled 0 (length (drill s line)) (length line) else drilled 8 0 (length line)) .number) 0
+              then filled (drill s line) run else run)
           by-room true g = g
           by-room false g = g
