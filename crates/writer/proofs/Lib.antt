@@ -6,3 +6,4 @@ pub mod RoundTrip
 pub mod Putting
 pub mod Lines
 pub mod Answers
+pub mod Room
