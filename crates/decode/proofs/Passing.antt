@@ -147,11 +147,12 @@ module _ (bytes run : List ℕ) (fit : Fits (length run) (decoded bytes)) where
         rw (all-passed bytes at n (f .passed) h, le-leb _ _ k) (f .holds)
 
     module _ (h : at < length bytes) (q : Sequence) (found : q ≡ front (take (length bytes - at) (drop at bytes))) where
-      pub never-damaged : q ≡ Damaged → {A : Type 0} → A
+      -- bytes that fit have no damage
+      pub never-damaged : q ≡ Damaged → out ≡ run-after run (decoded bytes)
       never-damaged e = absurd (rw (stops bytes at n (f .passed) h q found e) at fit)
 
       module _ (w more : ℕ) (e : q ≡ Word w more) where
-        pub next-fits : n + 1 ≤ length out
+        pub next-fits : n < length out
         next-fits =
             let k : n + 1 ≤ length run = fewer-than-room _ _ (goes-on bytes at n (f .passed) h q found w more e) in
             omega (arith, same-length)
@@ -161,7 +162,7 @@ module _ (bytes run : List ℕ) (fit : Fits (length run) (decoded bytes)) where
         fills-on =
             record {
               passed = goes-on bytes at n (f .passed) h q found w more e;
-              holds = filled-next (f .passed .so-far) run out n w (f .passed .counted) (f .holds) next-fits;
+              holds = filled-next (f .passed .so-far) run out n w (f .passed .counted) (f .holds) (omega (arith, next-fits));
             }
 
 -- An answer with words: they fit, and the run has them. Any other answer: the run is as it was.

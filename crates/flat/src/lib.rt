@@ -9,7 +9,8 @@ ghost use mathlib.Core.Path.{_≡_};
 ghost use mathlib.Core.Option.{none, some};
 ghost use lib.Dec.{eqb};
 ghost use Rattle.rules.specs.Choice.{if_then_else_};
-ghost use Rattle.flat.specs.Fields.{thumb-number, joined, flat, no-character, no-thumb, no-release, as-S1, as-S2, as-S3, as-S4, as-S5, as-S6, resting-named, named};
+ghost use Rattle.flat.specs.Fields.{thumb-number, joined, flat, no-character, no-thumb, no-release};
+ghost use Rattle.flat.specs.Fields.{as-S1, as-S2, as-S3, as-S4, as-S5, as-S6, resting-named, named};
 ghost use Rattle.flat.specs.Views.{found-as, named-as};
 
 // A field that a state does not use is 0.

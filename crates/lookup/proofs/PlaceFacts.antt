@@ -43,7 +43,8 @@ stands n f c (d ∷ l) p =
     record { at = 0; is-place = sym (some-injective e) ∙ ap (λ (k : ℕ). place k f) (sym (add-zero n)); has-code = eqb-true d c same })
     (λ _ e.
     let r = stands (suc n) f c l p e in
-    record { at = suc (r .at); is-place = r .is-place ∙ ap (λ (k : ℕ). place k f) (suc-add n (r .at) ∙ sym (add-suc n (r .at))); has-code = r .has-code })
+    let next : suc n + r .at ≡ n + suc (r .at) = suc-add n (r .at) ∙ sym (add-suc n (r .at)) in
+    record { at = suc (r .at); is-place = r .is-place ∙ ap (λ (k : ℕ). place k f) next; has-code = r .has-code })
 
 -- what stands among l is found
 missed : (n : ℕ) (f : Face) (c : ℕ) (l : List ℕ) (i : ℕ) → i < length l → getD l i 0 ≡ c → key-from n f c l ≢ none
@@ -98,7 +99,8 @@ not-missed k f n =
     (λ _ e. on-its-face k f n (none-on f e))
   where
     none-on : (g : Face)
-        → or-else (on-face Plain (code-point k f)) (or-else (on-face (With Left) (code-point k f)) (on-face (With Right) (code-point k f))) ≡ none
+        → or-else (on-face Plain (code-point k f))
+        (or-else (on-face (With Left) (code-point k f)) (on-face (With Right) (code-point k f))) ≡ none
         → on-face g (code-point k f) ≡ none
     none-on Plain e = first-none (on-face Plain (code-point k f)) _ e
     none-on (With Left) e = first-none (on-face (With Left) (code-point k f)) _ (second-none (on-face Plain (code-point k f)) _ e)

@@ -85,7 +85,9 @@ counted-all ws i n h e = rw (← take-all i ws h) e
 pub front-shorter : (ws : List ℕ) (i : ℕ) → length (text (take i ws)) ≤ length (text ws)
 front-shorter ws i =
     let e : length (text (take i ws)) + length (text (drop i ws)) ≡ length (text ws) =
-    sym (length-append (text (take i ws)) (text (drop i ws))) ∙ ap length (sym (text-append (take i ws) (drop i ws))) ∙ ap (λ l. length (text l)) (take-append-drop i ws) in
+    sym (length-append (text (take i ws)) (text (drop i ws)))
+    ∙ ap length (sym (text-append (take i ws) (drop i ws)))
+    ∙ ap (λ l. length (text l)) (take-append-drop i ws) in
     omega arith
 
 -- What holds in the loop of `encode`: the run is filled with the text of the first i words.

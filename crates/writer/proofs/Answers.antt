@@ -1,42 +1,28 @@
 -- What the writer answers, from the verdict on the line and the room.
-use Prim.Native.Nat.{ℕ, suc, _+_, _*_, _≤_, _<_}
+use Prim.Native.Nat.{ℕ, _+_, _≤_, _<_}
 use native.Mathlib.Nat.{zero-add}
 use native.Mathlib.Omega.{arith}
 use borrow.Author.Tests.{ne-eqb, le-leb, lt-leb}
 use mathlib.Core.Bool.{Bool, true, false}
-use mathlib.Core.List.{List, [], _∷_, _++_}
+use mathlib.Core.List.{List, _++_}
+use mathlib.Core.Logic.{_≢_}
 use mathlib.Core.Option.{Option, none, some}
 use mathlib.Core.Path.{_≡_, refl, sym, ap, _∙_}
-use lib.Dec.{ltb, leb, eqb}
+use lib.Dec.{leb, eqb}
 use lib.ListN.{length, length-append}
 use Rattle.rules.specs.Choice.{if_then_else_}
-use Rattle.rules.specs.Numbers.{largest-stamp, in-range}
+use Rattle.rules.specs.Numbers.{in-range}
 use Rattle.rules.specs.declared.Settings.{Settings}
-use Rattle.rules.proofs.Choices.{both-ways}
-use Rattle.lookup.specs.Places.{Place, place-of}
 use Rattle.runs.specs.Filled.{filled, Stored}
 use Rattle.runs.proofs.Filling.{stored-both}
 use Rattle.writer.specs.declared.Drilled.{Drilled}
 use Rattle.writer.specs.declared.checks.Verdict.{Verdict}
 use Rattle.writer.specs.declared.checks.Verdict.the-variants as verdicts
-use Rattle.writer.specs.Drills.{settings-record, drill, Refused, judge-character, first-of, first-refused, drilled, judge-room, writing, run-after}
+use Rattle.writer.specs.Drills.{settings-record, drill, Refused, first-refused}
+use Rattle.writer.specs.Drills.{drilled, judge-room, writing, run-after}
 use Rattle.writer.specs.Parts.{line-bytes, verdict}
 use Rattle.writer.specs.Writes.{WritesLog, Writes}
-
--- a refused character's number is not 0
-abbrev Numbered : Option Refused → Type 0
-Numbered none = Prim.Unit {0}
-Numbered (some r) = 1 ≤ r .number
-
-numbered : (n : ℕ) (line : List ℕ) → Numbered (first-refused n line)
-unfolding first-refused
-numbered n [] = tt
-numbered n (c ∷ cs) = by-place (place-of c) (numbered (suc n) cs)
-  where
-    by-place : (o : Option Place) → Numbered (first-refused (suc n) cs) → Numbered (first-of (judge-character n o) (first-refused (suc n) cs))
-    by-place none later = omega arith
-    by-place (some p) later =
-        both-ways (λ o. Numbered (first-of o (first-refused (suc n) cs))) (ltb largest-stamp (250 * n)) (omega arith) later
+use Rattle.writer.proofs.Refusals.{refused-number}
 
 drill-parts : (s : Settings) (line : List ℕ) → drill s line ≡ settings-record s ++ line-bytes 0 line
 unfolding drill line-bytes
@@ -93,29 +79,34 @@ module _ (s : Settings) (line run : List ℕ) where
       i : in-range s ≡ true
       i = sym tested ∙ is
 
-      pub line-refused : (number position : ℕ) → v ≡ verdicts.Refused number position → r ≡ drilled number 0 position → Writes s line run r run
+      pub line-refused : (number position : ℕ) → v ≡ verdicts.Refused number position → r ≡ drilled number 0 position
+          → Writes s line run r run
       unfolding writing run-after
-      line-refused number position e f = by-first (first-refused 0 line) refl (numbered 0 line) (sym judged ∙ e)
+      line-refused number position e f = by-first (first-refused 0 line) refl (sym judged ∙ e)
         where
-          by-first : (o : Option Refused) → first-refused 0 line ≡ o → Numbered o
+          by-first : (o : Option Refused) → first-refused 0 line ≡ o
               → verdict o (8 + length (line-bytes 0 line)) ≡ verdicts.Refused number position
               → Writes s line run r run
-          by-first none g z h = absurd (let z : _≡_ {A = ℕ} 0 1 = cc in omega arith)
-          by-first (some q) g z h =
+          by-first none g h = absurd (let z : _≡_ {A = ℕ} 0 1 = cc in omega arith)
+          by-first (some q) g h =
+              let not-0 : q .number ≢ 0 = refused-number (λ k. k ≢ 0) (λ z. omega arith) (λ z. omega arith) 0 line q g in
               let n : number ≡ q .number = cc in
               let p : position ≡ q .position = cc in
-              record { answered = rw (i, g, ← n, ← p) f; left = rw (i, g, ne-eqb (q .number) 0 (λ k. omega arith)) }
+              record { answered = rw (i, g, ← n, ← p) f; left = rw (i, g, ne-eqb (q .number) 0 not-0) }
 
-      pub line-accepted : (bytes : ℕ) → v ≡ verdicts.Bytes bytes → (after : List ℕ) → WritesLog s line run r after → Writes s line run r after
+      pub line-accepted : (bytes : ℕ) → v ≡ verdicts.Bytes bytes → (after : List ℕ) → WritesLog s line run r after
+          → Writes s line run r after
       unfolding writing run-after
       line-accepted bytes e after w =
-          let fine : first-refused 0 line ≡ none = bytes-are (first-refused 0 line) (8 + length (line-bytes 0 line)) bytes (sym judged ∙ e) .0 in
+          let fine : first-refused 0 line ≡ none =
+          bytes-are (first-refused 0 line) (8 + length (line-bytes 0 line)) bytes (sym judged ∙ e) .0 in
           record {
             answered = rw (i, fine) (w .answered);
             left = rw (i, fine) (by-room (leb (length (drill s line)) (length run)) (w .left));
           }
         where
           by-room : (b : Bool) → after ≡ (if b then filled (drill s line) run else run)
-              → after ≡ (if eqb ((if b then drilled 0 (length (drill s line)) (length line) else drilled 8 0 (length line)) .number) 0 then filled (drill s line) run else run)
+              → after ≡ (if eqb ((if b then drilled 0 (length (drill s line)) (length line) else drilled 8 0 (length line)) .number) 0
+              then filled (drill s line) run else run)
           by-room true g = g
           by-room false g = g

@@ -1,7 +1,9 @@
 pub mod Bytes
 pub mod Read
 pub mod Played
+pub mod Refusals
 pub mod RoundTrip
 pub mod Putting
 pub mod Lines
 pub mod Answers
+pub mod Room

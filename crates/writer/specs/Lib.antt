@@ -2,3 +2,4 @@ pub mod Drills
 pub mod Parts
 pub mod Writes
 pub mod RoundTrip
+pub mod Room

@@ -1,3 +1,4 @@
+-- `decode::fill` meets its contract: the run is filled with the words of the sequences passed (`Filling`).
 use borrow.Author.Needs.{needs}
 use Prim.Native.Nat.{_-_}
 use native.Mathlib.Omega.{arith}
@@ -12,6 +13,23 @@ Inv-loop bytes out₀ n₀ at₀ out n at = Filling bytes out₀ out at n
 abbrev μ-loop : tie.MeasureT-loop
 μ-loop bytes out₀ n₀ at₀ out n at = length bytes - at
 
+-- the next position is not past the end
+add-at : tie.Need-add-at Inv-loop μ-loop
+add-at c =
+    let matched = c .before in
+    let found = matched .before .before in
+    let in-loop = found .before .before in
+    let inv = in-loop .before .loop .inv .passed in
+    omega (arith, next-inside _ _ _ inv (in-loop .loop-test .taken) _ (found .front .ensures) _ _ (matched .w .given .1))
+
+add-at-2 : tie.Need-add-at-2 Inv-loop μ-loop
+add-at-2 c =
+    let matched = c .before in
+    let found = matched .before .before in
+    let in-loop = found .before .before in
+    let inv = in-loop .before .loop .inv .passed in
+    omega (arith, next-inside _ _ _ inv (in-loop .loop-test .taken) _ (found .front .ensures) _ _ (matched .w .given .1))
+
 pub fill-spec : {M : Type 1} → statement M
 fill-spec =
     tie.close
@@ -24,15 +42,15 @@ fill-spec =
     (λ c. search needs)
     (λ c κs. search needs)
     (λ c. search needs)
-    (λ c. never-damaged _ _ (c .before .before .before .before .before .before .before .before .pre) _ _ _ (c .before .before .before .before .before .loop .inv) (c .before .before .before .before .loop-test .taken) _ (c .before .before .front .ensures) (c .enum-told .given .1))
-    (λ c. never-damaged _ _ (c .before .before .before .before .before .before .before .before .pre) _ _ _ (c .before .before .before .before .before .loop .inv) (c .before .before .before .before .loop-test .taken) _ (c .before .before .front .ensures) (c .enum-told .given .1))
+    (λ c. search (same-length, needs))
+    (λ c. search (never-damaged, needs))
     (λ c. search needs)
     (λ c. search needs)
-    (λ c. omega (arith, next-fits _ _ (c .before .before .before .before .before .before .before .before .before .pre) _ _ _ (c .before .before .before .before .before .before .loop .inv) (c .before .before .before .before .before .loop-test .taken) _ (c .before .before .before .front .ensures) _ _ (c .before .w .given .1)))
+    (λ c. search (next-fits, needs))
     (λ c. search needs)
-    (λ c. omega (arith, next-inside _ _ _ ((c .before .before .before .before .before .before .loop .inv) .passed) (c .before .before .before .before .before .loop-test .taken) _ (c .before .before .before .front .ensures) _ _ (c .before .w .given .1)))
-    (λ c. omega (arith, next-inside _ _ _ ((c .before .before .before .before .before .before .loop .inv) .passed) (c .before .before .before .before .before .loop-test .taken) _ (c .before .before .before .front .ensures) _ _ (c .before .w .given .1)))
-    (λ c. omega (arith, next-inside _ _ _ ((c .before .before .before .before .before .before .loop .inv) .passed) (c .before .before .before .before .before .loop-test .taken) _ (c .before .before .before .front .ensures) _ _ (c .before .w .given .1)))
-    (λ c. fills-on _ _ (c .before .before .before .before .before .before .before .before .before .pre) _ _ _ (c .before .before .before .before .before .before .loop .inv) (c .before .before .before .before .before .loop-test .taken) _ (c .before .before .before .front .ensures) _ _ (c .before .w .given .1))
-    (λ c. same-length _ _ (c .before .before .before .before .pre) _ _ _ (c .before .loop .inv))
-    (λ c. all-filled _ _ (c .before .before .before .before .pre) _ _ _ (c .before .loop .inv) (c .loop-test .left)))
+    add-at
+    add-at-2
+    (λ c. search needs)
+    (λ c. search (fills-on, needs))
+    (λ c. search (same-length, needs))
+    (λ c. search (all-filled, needs)))

@@ -1,3 +1,4 @@
+-- `decode::measure` meets its contract: the sequences passed have given as many words as are counted (`Passed`).
 use borrow.Author.Needs.{needs}
 use Prim.Native.Nat.{_-_}
 use native.Mathlib.Omega.{arith}
@@ -12,6 +13,23 @@ Inv-loop bytes room n₀ at₀ n at = Passed bytes at n
 abbrev μ-loop : tie.MeasureT-loop
 μ-loop bytes room n₀ at₀ n at = length bytes - at
 
+-- the next position is not past the end
+add-at : tie.Need-add-at Inv-loop μ-loop
+add-at c =
+    let matched = c .before in
+    let found = matched .before .before in
+    let in-loop = found .before .before in
+    let inv = in-loop .before .loop .inv in
+    omega (arith, next-inside _ _ _ inv (in-loop .loop-test .taken) _ (found .front .ensures) _ _ (matched .more .given .1))
+
+add-at-2 : tie.Need-add-at-2 Inv-loop μ-loop
+add-at-2 c =
+    let matched = c .before in
+    let found = matched .before .before in
+    let in-loop = found .before .before in
+    let inv = in-loop .before .loop .inv in
+    omega (arith, next-inside _ _ _ inv (in-loop .loop-test .taken) _ (found .front .ensures) _ _ (matched .more .given .1))
+
 pub measure-spec : {M : Type 1} → statement M
 measure-spec =
     tie.close
@@ -24,12 +42,12 @@ measure-spec =
     (λ c. search needs)
     (λ c κs. search needs)
     (λ c. search needs)
-    (λ c. damage-found _ _ _ (stops _ _ _ (c .before .before .before .before .before .loop .inv) (c .before .before .before .before .loop-test .taken) _ (c .before .before .front .ensures) (c .enum-told .given .1)))
+    (λ c. search (damage-found, stops, needs))
     (λ c. search needs)
     (λ c. search needs)
-    (λ c. omega (arith, next-inside _ _ _ (c .before .before .before .before .before .before .loop .inv) (c .before .before .before .before .before .loop-test .taken) _ (c .before .before .before .front .ensures) _ _ (c .before .more .given .1)))
-    (λ c. omega (arith, next-inside _ _ _ (c .before .before .before .before .before .before .loop .inv) (c .before .before .before .before .before .loop-test .taken) _ (c .before .before .before .front .ensures) _ _ (c .before .more .given .1)))
-    (λ c. omega (arith, next-inside _ _ _ (c .before .before .before .before .before .before .loop .inv) (c .before .before .before .before .before .loop-test .taken) _ (c .before .before .before .front .ensures) _ _ (c .before .more .given .1)))
-    (λ c. goes-on _ _ _ (c .before .before .before .before .before .before .loop .inv) (c .before .before .before .before .before .loop-test .taken) _ (c .before .before .before .front .ensures) _ _ (c .before .more .given .1))
-    (λ c. no-room _ _ _ _ (all-passed _ _ _ (c .before .before .loop .inv) (c .before .loop-test .left)) (c .before .before .loop .inv .counted) (c .if1 .taken))
-    (λ c. has-room _ _ _ _ (all-passed _ _ _ (c .before .before .loop .inv) (c .before .loop-test .left)) (c .before .before .loop .inv .counted) (c .if1 .left)))
+    add-at
+    add-at-2
+    (λ c. search needs)
+    (λ c. search (goes-on, needs))
+    (λ c. search (no-room, all-passed, needs))
+    (λ c. search (has-room, all-passed, needs)))

@@ -7,6 +7,12 @@ use Rattle.layout.proofs.Table.{column-below, rows, read, outside}
 use Rattle.layout.proofs.code_point.Statement.{statement}
 use Rattle.layout.proofs.code_point.Tie as tie
 
+returns-2 : tie.Need-returns-2
+unfolding rows table
+returns-2 c =
+    let start = c .before .before .before .before in
+    rw (c .before .column .ensures) (read (start .args .key) (start .args .face))
+
 pub code-point-spec : {M : Type 1} → statement M
 unfolding rows table
 code-point-spec =
@@ -19,5 +25,4 @@ code-point-spec =
     (λ c. rw (c .column .ensures) (omega (arith, column-below (c .before .before .before .args .face))))
     (λ c. search needs)
     (λ c. rw (c .column .ensures) (column-below (c .before .before .before .args .face)))
-    (λ c.
-    rw (c .before .column .ensures) (read (c .before .before .before .before .args .key) (c .before .before .before .before .args .face))))
+    returns-2)

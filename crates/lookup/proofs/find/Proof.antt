@@ -14,9 +14,9 @@ find-spec =
     (tie.spec
     (λ c. rw (c .if1 .taken))
     (λ c. rw (c .if2 .taken))
-    (λ c. below-table _ (c .before .before .if1 .left) (c .before .if2 .left) (c .if3 .taken))
-    (λ c. above-table _ (c .before .before .before .if1 .left) (c .before .before .if2 .left) (c .if4 .taken))
+    (λ c. search (below-table, needs))
+    (λ c. search (above-table, needs))
     (λ c. search needs)
     (λ c κs. search needs)
     (λ c κs. search needs)
-    (λ c. in-table (c .before .before .before .before .before .before .args .c) _ _ (c .before .before .before .if3 .left) (c .before .entry .ensures) (c .place-at .ensures)))
+    (λ c. search (in-table, needs)))

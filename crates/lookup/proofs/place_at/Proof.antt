@@ -10,7 +10,7 @@ unfolding place-at
 place-at-spec =
     tie.close
     (tie.spec
+    (λ c. search (eq-eqb, needs))
     (λ c. search (eq-eqb, ne-eqb, needs))
     (λ c. search (eq-eqb, ne-eqb, needs))
-    (λ c. search (eq-eqb, ne-eqb, needs))
-    (λ c. search (eq-eqb, ne-eqb, needs)))
+    (λ c. search (ne-eqb, needs)))

@@ -1,3 +1,4 @@
+-- `numbers::digit` meets its contract.
 use borrow.Author.Tests.{le-leb, lt-leb}
 use Rattle.numbers.specs.Decimals.{is-digit}
 use Rattle.numbers.proofs.digit.Statement.{statement}

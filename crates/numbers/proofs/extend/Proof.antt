@@ -1,3 +1,4 @@
+-- `numbers::extend` meets its contract.
 use borrow.Author.Needs.{needs}
 use borrow.Author.Tests.{le-leb, lt-leb}
 use Rattle.numbers.specs.Decimals.{extended}

@@ -1,3 +1,4 @@
+-- `numbers::parse` meets its contract: the digits passed make the number so far (`Read`).
 use borrow.Author.Needs.{needs}
 use Prim.Native.Nat.{_-_}
 use lib.ListN.{length}
@@ -17,14 +18,14 @@ parse-spec =
     (tie.spec
     Inv-loop
     μ-loop
-    (λ c. none-read _ (c .if1 .taken))
-    (λ c. begun _ (c .if1 .left))
+    (λ c. search (none-read, needs))
+    (λ c. search (begun, needs))
     (λ c. search needs)
     (λ c κs. search needs)
     (λ c. search needs)
     (λ c. search needs)
-    (λ c. stops _ _ _ (c .before .before .before .before .before .loop .inv) (c .before .before .before .before .loop-test .taken) _ (c .before .before .extend .ensures) (c .enum-told .given .1))
+    (λ c. search (stops, needs))
     (λ c. search needs)
     (λ c. search needs)
-    (λ c. goes-on _ _ _ (c .before .before .before .before .before .before .loop .inv) (c .before .before .before .before .before .loop-test .taken) _ (c .before .before .before .extend .ensures) _ (c .before .next .given .1))
-    (λ c. ended _ _ _ (c .before .loop .inv) (c .loop-test .left)))
+    (λ c. search (goes-on, needs))
+    (λ c. search (ended, needs)))

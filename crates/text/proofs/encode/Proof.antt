@@ -19,13 +19,13 @@ encode-spec =
     Inv-loop
     μ-loop
     (λ c κs. search needs)
-    (λ c. does-not-fit _ _ _ (c .before .size .ensures) (c .if1 .taken))
+    (λ c. search (does-not-fit, needs))
     (λ c. begun _ _)
     (λ c. search needs)
     (λ c. search needs)
-    (λ c κs. next-fits _ _ _ (c .before .before .before .before .before .size .ensures) _ _ _ (c .before .before .before .loop .inv) (c .before .before .before .before .if1 .left) (c .before .before .loop-test .taken))
+    (λ c κs. search (next-fits, needs))
     (λ c. search needs)
     (λ c. search needs)
-    (λ c. written-more _ _ _ (c .before .before .before .before .before .before .before .before .size .ensures) _ _ _ (c .before .before .before .before .before .before .loop .inv) (c .before .before .before .before .before .before .before .if1 .left) (c .before .before .before .before .before .loop-test .taken) _ _ (c .before .before .put .ensures))
-    (λ c. same-length _ _ _ (c .before .before .before .size .ensures) _ _ _ (c .before .loop .inv) (c .before .before .if1 .left))
-    (λ c. all-written _ _ _ (c .before .before .before .size .ensures) _ _ _ (c .before .loop .inv) (c .before .before .if1 .left) (c .loop-test .left)))
+    (λ c. search (written-more, needs))
+    (λ c. search (same-length, needs))
+    (λ c. search (all-written, needs)))

@@ -10,10 +10,10 @@ put-spec =
     (tie.spec
     (λ c κs. rw (sign-left _ (c .before .if1 .taken)) at (c .before .before .before .pre))
     (λ c. search needs)
-    (λ c. stored-as _ _ _ _ _ _ (sign-left _ (c .before .before .before .before .if1 .taken)) (c .before .before .put-three .ensures))
+    (λ c. search (stored-as, sign-left, needs))
     (λ c κs. rw (sign-right _ (c .before .if2 .taken)) at (c .before .before .before .before .pre))
     (λ c. search needs)
-    (λ c. stored-as _ _ _ _ _ _ (sign-right _ (c .before .before .before .before .if2 .taken)) (c .before .before .put-three2 .ensures))
+    (λ c. search (stored-as, sign-right, needs))
     (λ c κs. rw (sign-other _ (c .before .before .if1 .left) (c .before .if2 .left)) at (c .before .before .before .before .pre))
     (λ c. search needs)
-    (λ c. stored-as _ _ _ _ _ _ (sign-other _ (c .before .before .before .before .before .if1 .left) (c .before .before .before .before .if2 .left)) (c .before .before .put-utf8 .ensures)))
+    (λ c. search (stored-as, sign-other, needs)))

@@ -28,5 +28,5 @@ size-spec =
     (λ c. search needs)
     (λ c. search needs)
     (λ c. search needs)
-    (λ c. (search needs, counted-more _ _ _ _ (c .before .before .loop-test .taken) (c .before .before .before .loop .inv .1) (c .width .ensures .0), search needs))
-    (λ c. counted-all _ _ _ (c .loop-test .left) (c .before .loop .inv .1)))
+    (λ c. (search needs, search (counted-more, needs), search needs))
+    (λ c. search (counted-all, needs)))

@@ -1,3 +1,4 @@
+-- `sequence::both` meets its contract.
 use Rattle.decode.proofs.sequence.both.Statement.{statement}
 use Rattle.decode.proofs.sequence.both.Tie as tie
 

@@ -1,3 +1,4 @@
+-- `sequence::byte` meets its contract: past the end the definition gives 0 too.
 use borrow.Author.Needs.{needs}
 use mathlib.Core.Path.{sym}
 use lib.ListN.{List·getD-eq-default}

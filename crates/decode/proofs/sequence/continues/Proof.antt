@@ -1,3 +1,4 @@
+-- `sequence::continues` meets its contract.
 use borrow.Author.Needs.{needs}
 use Rattle.decode.specs.Sequences.{continues}
 use Rattle.decode.proofs.sequence.continues.Statement.{statement}

@@ -1,5 +1,6 @@
+-- `sequence::four` meets its contract: the last test chooses.
 use borrow.Author.Needs.{needs}
-use Rattle.decode.proofs.Forms.{four-is}
+use Rattle.decode.proofs.Forms.{four-word, four-damaged}
 use Rattle.decode.proofs.sequence.four.Statement.{statement}
 use Rattle.decode.proofs.sequence.four.Tie as tie
 
@@ -18,5 +19,5 @@ four-spec =
     (λ c κs. search needs)
     (λ c κs. search needs)
     (λ c κs. search needs)
-    (λ c. rw (four-is _ _ _ _ _ _ _ _ _ _ _ _ _ _ (c .before .before .before .before .before .before .before .before .before .before .joined .ensures) (c .before .before .before .before .before .before .before .before .before .joined2 .ensures) (c .before .before .before .before .before .before .before .before .joined3 .ensures) (c .before .before .before .before .before .before .before .continues .ensures) (c .before .before .before .before .before .before .continues2 .ensures) (c .before .before .before .before .before .both .ensures) (c .before .before .before .before .continues3 .ensures) (c .before .before .before .both2 .ensures) (c .before .before .within .ensures) (c .before .both3 .ensures), c .if1 .taken))
-    (λ c. rw (four-is _ _ _ _ _ _ _ _ _ _ _ _ _ _ (c .before .before .before .before .before .before .before .before .before .before .joined .ensures) (c .before .before .before .before .before .before .before .before .before .joined2 .ensures) (c .before .before .before .before .before .before .before .before .joined3 .ensures) (c .before .before .before .before .before .before .before .continues .ensures) (c .before .before .before .before .before .before .continues2 .ensures) (c .before .before .before .before .before .both .ensures) (c .before .before .before .before .continues3 .ensures) (c .before .before .before .both2 .ensures) (c .before .before .within .ensures) (c .before .both3 .ensures), c .if1 .left)))
+    (λ c. search (four-word, needs))
+    (λ c. search (four-damaged, needs)))

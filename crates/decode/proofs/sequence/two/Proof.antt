@@ -1,5 +1,6 @@
+-- `sequence::two` meets its contract: the last test chooses.
 use borrow.Author.Needs.{needs}
-use Rattle.decode.proofs.Forms.{two-is}
+use Rattle.decode.proofs.Forms.{two-word, two-damaged}
 use Rattle.decode.proofs.sequence.two.Statement.{statement}
 use Rattle.decode.proofs.sequence.two.Tie as tie
 
@@ -13,5 +14,5 @@ two-spec =
     (λ c κs. search needs)
     (λ c κs. search needs)
     (λ c. search needs)
-    (λ c. rw (two-is _ _ _ _ _ _ (c .before .before .before .before .joined .ensures) (c .before .before .before .continues .ensures) (c .before .before .within .ensures) (c .before .both .ensures), c .if1 .taken))
-    (λ c. rw (two-is _ _ _ _ _ _ (c .before .before .before .before .joined .ensures) (c .before .before .before .continues .ensures) (c .before .before .within .ensures) (c .before .both .ensures), c .if1 .left)))
+    (λ c. search (two-word, needs))
+    (λ c. search (two-damaged, needs)))

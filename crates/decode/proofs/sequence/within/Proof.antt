@@ -1,3 +1,4 @@
+-- `sequence::within` meets its contract.
 use borrow.Author.Tests.{le-leb, lt-leb}
 use Rattle.decode.specs.Sequences.{within}
 use Rattle.decode.proofs.sequence.within.Statement.{statement}
