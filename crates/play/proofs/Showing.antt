@@ -12,11 +12,11 @@ use Rattle.report.specs.declared.Answer.{Answer}
 use Rattle.report.specs.declared.Answer.the-variants.{Full, Text}
 
 pub text-shown : (log run : List ℕ) (a : Answer) (after : List ℕ) (n : ℕ)
-    → printed-room ≡ length run → Reports log run a after → Within n a → Text-within n a
-text-shown log run a after n long r w = by-answer a (rw enough at (r .answered)) w
+    → printed-room ≤ length run → Reports log run a after → Within n a → Text-within n a
+text-shown log run a after n fits r w = by-answer a (rw enough at (r .answered)) w
   where
     enough : leb printed-room (length run) ≡ true
-    enough = le-leb printed-room (length run) (omega arith)
+    enough = le-leb printed-room (length run) fits
 
     by-answer : (b : Answer) → b ≡ Text (length (printed log)) (number-of log) (offset-of log) → Within n b → Text-within n b
     by-answer Full e v = let z : _≡_ {A = ℕ} 0 1 = cc in omega arith

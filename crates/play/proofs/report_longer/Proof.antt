@@ -6,9 +6,10 @@ use Rattle.play.proofs.report_longer.Tie as tie
 
 returns : tie.Need-returns
 returns c =
-    let o = c .before .before .before .before .before .before in
-    ((λ b more. c .before .before .too-long .ensures .0 _ (goes-on (o .args .start .now) b more (o .pre))),
-    c .before .before .too-long .ensures .1)
+    let o = c .before .before .before .before .before .before in (
+      (λ b more. c .before .before .too-long .ensures .0 _ (goes-on (o .args .start .now) b more (o .pre))),
+      c .before .before .too-long .ensures .1,
+    )
 
 pub report-longer-spec : {M : Type 1} → statement M
 report-longer-spec =

@@ -1,9 +1,12 @@
 -- `play::run` meets its contract: a text is answered, since the buffer for it has room, and lies within that buffer.
 use borrow.Author.Needs.{needs}
+use Prim.Native.Nat.{_≤_}
 use native.Mathlib.Omega.{arith}
 use mathlib.Core.List.{[]}
 use mathlib.Core.Path.{sym}
+use lib.ListN.{length}
 use lib.Seq.{length-take-le}
+use Rattle.report.specs.Printed.{printed-room}
 use Rattle.play.proofs.Showing.{text-shown}
 use Rattle.play.proofs.run.Statement.{statement}
 use Rattle.play.proofs.run.Tie as tie
@@ -21,14 +24,16 @@ slice-aggregate-report c =
 show-requires : tie.Need-show-requires
 show-requires c κs =
     let r = c .before .before .report in
-    let room = c .before .before .before .before .before .before .before .before .before .before .before .text-buffer .ensures in
-    rw (r .kept .1 .0) (text-shown _ _ _ _ _ room (r .ensures .0) (r .ensures .1))
+    let b = c .before .before .before .before .before .before .before .before .before .before .before .text-buffer in
+    let fits : printed-room ≤ length (b .result) = omega (arith, b .ensures) in
+    rw (r .kept .1 .0) (text-shown _ _ _ _ _ fits (r .ensures .0) (r .ensures .1))
 
 show-requires-2 : tie.Need-show-requires-2
 show-requires-2 c κs =
     let r = c .before .before .report-longer in
-    let room = c .before .before .before .before .before .before .before .before .before .before .text-buffer .ensures in
-    rw (r .kept .1 .0) (text-shown _ _ _ _ _ room (r .ensures .0 0 []) (r .ensures .1))
+    let b = c .before .before .before .before .before .before .before .before .before .before .text-buffer in
+    let fits : printed-room ≤ length (b .result) = omega (arith, b .ensures) in
+    rw (r .kept .1 .0) (text-shown _ _ _ _ _ fits (r .ensures .0 0 []) (r .ensures .1))
 
 pub run-spec : {M : Type 1} → statement M
 run-spec =
