@@ -3,7 +3,7 @@
 // What a refusal means is said on standard error. Where standard input can't be read to its end, nothing is printed, and standard
 // error says why: what was read so far is not the log. Where standard output can't be written, standard error says why, and some of
 // the text may have been written.
-mod words;
+mod messages;
 
 use input::Input;
 use libc::STDERR_FILENO;
@@ -53,7 +53,7 @@ fn show(answer: Answer, out: &[u8])
             offset,
         } => {
             if io::write_all(STDOUT_FILENO, &out[..bytes]) {
-                words::explain(number, offset);
+                messages::explain(number, offset);
                 return;
             }
             os::fail(b"play: standard output");
@@ -94,9 +94,9 @@ fn main() {
     }
     if count == 2 {
         if help_asked() {
-            words::usage(STDOUT_FILENO);
+            messages::print_usage(STDOUT_FILENO);
             return;
         }
     }
-    words::usage(STDERR_FILENO);
+    messages::print_usage(STDERR_FILENO);
 }

@@ -1,3 +1,6 @@
+-- `drill::log_buffer` meets its contract: its length is the definition's.
+use mathlib.Core.Path.{refl}
+use Rattle.drill.specs.Room.{log-room}
 use Rattle.drill.proofs.Room.{as-long}
 use Rattle.drill.proofs.log_buffer.Statement.{statement}
 use Rattle.drill.proofs.log_buffer.Tie as tie
@@ -6,4 +9,4 @@ pub log-buffer-spec : {M : Type 1} → statement M
 log-buffer-spec =
     tie.close
     (tie.spec
-    (λ c. as-long 1419933 0))
+    (λ c. as-long log-room _ 0 refl))

@@ -1,7 +1,7 @@
 // What the program says besides the text: how to use it, and what a refusal means.
 use libc::STDERR_FILENO;
 
-pub fn usage(fd: i32) {
+pub fn print_usage(fd: i32) {
     io::write_all(fd, b"usage: play < LOG\n");
     io::write_all(
         fd,
