@@ -5,9 +5,9 @@ use borrow.Author.Tests.{eqb-true, ltb-true, ltb-false, leb-true, le-leb}
 use mathlib.Core.Bool.{Bool, true, false, not, _&&_, false≢true}
 use mathlib.Core.List.{List, [], _∷_}
 use mathlib.Core.Option.{Option, none, some}
-use mathlib.Core.Path.{_≡_, refl, sym, _∙_}
+use mathlib.Core.Path.{_≡_, refl}
 use lib.Dec.{eqb, leb, ltb}
-use lib.ListN.{length, replicate, length-append, length-replicate}
+use lib.ListN.{length, length-append}
 use Rattle.rules.specs.Numbers.{largest-stamp, in-range}
 use Rattle.rules.specs.declared.Settings.{Settings}
 use Rattle.rules.specs.declared.Stamp.{Stamp}
@@ -29,10 +29,6 @@ use Rattle.drill.specs.Room as answered
 use Rattle.drill.specs.declared.lines.Answer.{Answer}
 use Rattle.drill.specs.declared.lines.Answer.the-variants as answers
 use Rattle.drill.proofs.Answering.{short-front}
-
--- the length of a run of equal numbers, for one that is too long to be computed
-pub as-long : (room n a : ℕ) → room ≡ n → room ≡ length (replicate n a)
-as-long room n a e = e ∙ sym (length-replicate n a)
 
 -- The log of a line: 8 bytes, and at most five records of 13 for each character.
 

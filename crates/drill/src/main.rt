@@ -31,11 +31,18 @@ fn text_buffer() -> [u8; LONGEST_TEXT]
     [0; LONGEST_TEXT]
 }
 
+// The log's buffer as it is given. A parameter's length is known by its type; that of `[0; LOG_ROOM]` takes too long to compute.
+fn with_room(log: [u8; LOG_ROOM]) -> [u8; LOG_ROOM]
+    ensures { λ r. ⌜ log-room ≡ length r ⌝ }
+{
+    log
+}
+
 // Room for the log of every such text.
 fn log_buffer() -> [u8; LOG_ROOM]
     ensures { λ r. ⌜ log-room ≡ length r ⌝ }
 {
-    [0; LOG_ROOM]
+    with_room([0; LOG_ROOM])
 }
 
 // Says that a text that begins with these bytes and has more is too long.
