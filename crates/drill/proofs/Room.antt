@@ -170,7 +170,8 @@ none-8 n (c ∷ cs) = not-8 n (first-refused (suc n) cs) (place-of c) (none-8 (s
 
 -- All together.
 
-module _ (s : Settings) (line : List ℕ) (room : ℕ) (enough : log-room ≤ room) (few : first-refused 0 line ≡ none → 3 * length line ≤ longest-text) where
+module _ (s : Settings) (line : List ℕ) (room : ℕ) (enough : log-room ≤ room)
+    (few : first-refused 0 line ≡ none → 3 * length line ≤ longest-text) where
   by-first : (o : Option Refused) → first-refused 0 line ≡ o → Not-8 o
       → answered.Not-8 (told (judge-line (length (drill s line)) room (length line) o))
   by-first none e n =
@@ -190,8 +191,9 @@ room-suffices s text room short enough = by-decoding (decoded (line-of text)) re
   where
     by-decoding : (d : Decoding) → decoded (line-of text) ≡ d → answered.Not-8 (answer-of s room d)
     by-decoding (words line) e =
+        let cut : length (line-of text) ≤ longest-text = short-front (line-size text) longest-text text short in
         written s line room enough
-        (λ f. omega (arith, three-each 0 0 (line-of text) line e (accepted-wide 0 line f) (omega arith), short-front (line-size text) longest-text text short))
+        (λ f. omega (arith, three-each 0 0 (line-of text) line e (accepted-wide 0 line f) (omega arith)))
     by-decoding (damaged at) e = λ position f. let z : _≡_ {A = ℕ} 0 1 = cc in omega arith
 
 -- what `write` promises of a text

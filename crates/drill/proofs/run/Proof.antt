@@ -20,12 +20,11 @@ slice-aggregate-print-drill c =
 
 print-drill-requires : tie.Need-print-drill-requires
 print-drill-requires c κs =
+    let n = c .before .before .before .n .given .0 .0 in
     let r = c .before .before .before .before .before .before in
     let log = r .before .before .log-buffer in
-    let text = r .before .before .before .text-buffer in (
-      short-front (c .before .before .before .n .given .0 .0) longest-text (r .read .last .0) (omega (arith, r .read .kept .0, text .ensures)),
-      omega (arith, log .ensures),
-    )
+    let text = r .before .before .before .text-buffer in
+    (short-front n longest-text (r .read .last .0) (omega (arith, r .read .kept .0, text .ensures)), omega (arith, log .ensures))
 
 pub run-spec : {M : Type 1} → statement M
 run-spec =

@@ -13,7 +13,8 @@ array-share-prefix-words c = words-taken _ _ _ _ (c .before .before .before .bef
 
 slice-aggregate-write-line : tie.Need-slice-aggregate-write-line
 slice-aggregate-write-line c =
-    sym (length-take-le _ _ (words-taken _ _ _ _ (c .before .before .before .before .before .decode .ensures) _ (c .before .before .k .given .1) .0))
+    let d = c .before .before .before .before .before .decode in
+    sym (length-take-le _ _ (words-taken _ _ _ _ (d .ensures) _ (c .before .before .k .given .1) .0))
 
 returns : tie.Need-returns
 returns c =
