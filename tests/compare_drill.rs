@@ -103,7 +103,7 @@ fn compare(programs: &Programs, settings: Option<RawSettings>, input: &str) -> R
         Ok(log) => (log, String::new()),
         Err(refusal) => (vec![], refusal),
     };
-    if got.stdout != log || got.stderr != refusal.as_bytes() {
+    if got.stdout != log || !says(&got.stderr, &refusal) {
         return Err(format!(
             "drill {settings:?} of {input:?}\nprogram {} {:?}\nmodel   {} {refusal:?}",
             hex(&got.stdout),
@@ -115,6 +115,18 @@ fn compare(programs: &Programs, settings: Option<RawSettings>, input: &str) -> R
         play_back(programs, &log, input.strip_suffix('\n').unwrap_or(input))?;
     }
     Ok(())
+}
+
+/// The refusal as a line of its own, and one line more that says it in words, which is
+/// looked at by tests/messages. Nothing where there is no refusal.
+fn says(error: &[u8], refusal: &str) -> bool {
+    let error = String::from_utf8_lossy(error);
+    let words = error.strip_prefix(refusal).map(|rest| rest.lines().collect::<Vec<_>>());
+    match (refusal, words.as_deref()) {
+        ("", Some([])) => true,
+        (_, Some([words])) => !refusal.is_empty() && words.starts_with("drill: "),
+        _ => false,
+    }
 }
 
 fn play_back(programs: &Programs, log: &[u8], line: &str) -> Result<(), String> {
@@ -142,7 +154,9 @@ fn check_damaged(programs: &Programs) -> Result<(), String> {
     for (input, right) in refused {
         let got = started(programs.drill, &[], input)?;
         let error = String::from_utf8_lossy(&got.stderr).into_owned();
-        if !got.stdout.is_empty() || error != format!("{right}\n") {
+        let line = format!("{right}\n");
+        let right = error == line || line.starts_with("refused") && says(&got.stderr, &line);
+        if !got.stdout.is_empty() || !right {
             return Err(format!("drill of {}: {} {error:?}", hex(input), hex(&got.stdout)));
         }
     }
@@ -150,7 +164,7 @@ fn check_damaged(programs: &Programs) -> Result<(), String> {
 }
 
 /// How to use it: printed for `--help` and for arguments that are not four numbers.
-/// Whether on standard output or standard error is left open.
+/// What it says, and where, is looked at by tests/messages.
 fn check_usage(programs: &Programs) -> Result<(), String> {
     for words in
         ["--help", "100", "100 50 50", "100 50 50 0 0", "100 50 50 x", "a b c d", "-1 50 50 0"]

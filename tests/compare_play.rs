@@ -57,10 +57,21 @@ fn long_logs(random: &mut Random) -> Vec<Vec<u8>> {
 }
 
 fn compare(program: &str, log: &[u8]) -> Result<(), String> {
-    let printed = run(program, &[], log).map_err(|error| format!("{program}: {error}"))?.stdout;
-    if printed == play(log).as_bytes() {
+    let got = run(program, &[], log).map_err(|error| format!("{program}: {error}"))?;
+    let (printed, said) = (lossy(&got.stdout), lossy(&got.stderr));
+    if got.stdout == play(log).as_bytes() && in_words(&printed, &said) {
         return Ok(());
     }
-    let printed = String::from_utf8_lossy(&printed).into_owned();
-    Err(format!("log     {}\nprogram {printed:?}\nmodel   {:?}", hex(log), play(log)))
+    Err(format!("log     {}\nprogram {printed:?} {said:?}\nmodel   {:?}", hex(log), play(log)))
+}
+
+/// One line on standard error for a refusal, and none for a log that plays. What it
+/// says is looked at by tests/messages.
+fn in_words(printed: &str, said: &str) -> bool {
+    let refused = printed.lines().last().is_some_and(|line| line.starts_with("refused "));
+    said.lines().count() == usize::from(refused) && said.lines().all(|l| l.starts_with("play: "))
+}
+
+fn lossy(bytes: &[u8]) -> String {
+    String::from_utf8_lossy(bytes).into_owned()
 }

@@ -5,9 +5,9 @@ use borrow.Author.Tests.{eqb-true, ltb-true, ltb-false, leb-true, le-leb}
 use mathlib.Core.Bool.{Bool, true, false, not, _&&_, false≢true}
 use mathlib.Core.List.{List, [], _∷_}
 use mathlib.Core.Option.{Option, none, some}
-use mathlib.Core.Path.{_≡_, refl, sym}
+use mathlib.Core.Path.{_≡_, refl}
 use lib.Dec.{eqb, leb, ltb}
-use lib.ListN.{length, replicate, length-append, length-replicate}
+use lib.ListN.{length, length-append}
 use Rattle.rules.specs.Numbers.{largest-stamp, in-range}
 use Rattle.rules.specs.declared.Settings.{Settings}
 use Rattle.rules.specs.declared.Stamp.{Stamp}
@@ -23,15 +23,12 @@ use Rattle.decode.specs.declared.sequence.Sequence.{Sequence}
 use Rattle.decode.specs.declared.sequence.Sequence.the-variants.{Damaged, Word}
 use Rattle.decode.proofs.Fronts.{follow}
 use Rattle.writer.specs.Drills.{settings-record, event-record, event-records, strokes, drill-stamp, line-events, drill, Refused, judge-character, first-of, first-refused, judge-line, writing}
-use Rattle.drill.specs.Texts.{longest-text, line-size, line-of, told, answer-of}
+use Rattle.drill.specs.Texts.{longest-text, line-size, line-of, told, answer-of, Drills, Within}
 use Rattle.drill.specs.Room.{log-room, Room-suffices}
+use Rattle.drill.specs.Room as answered
 use Rattle.drill.specs.declared.lines.Answer.{Answer}
 use Rattle.drill.specs.declared.lines.Answer.the-variants as answers
 use Rattle.drill.proofs.Answering.{short-front}
-
--- the length of a run of equal numbers, for one that is too long to be computed
-pub as-long : (n a : ℕ) → n ≡ length (replicate n a)
-as-long n a = sym (length-replicate n a)
 
 -- The log of a line: 8 bytes, and at most five records of 13 for each character.
 
@@ -173,29 +170,34 @@ none-8 n (c ∷ cs) = not-8 n (first-refused (suc n) cs) (place-of c) (none-8 (s
 
 -- All together.
 
-abbrev Fine : Answer → Type 0
-Fine a = (position : ℕ) → a ≡ answers.Refused 8 position → ⊥
-
-module _ (s : Settings) (line : List ℕ) (few : first-refused 0 line ≡ none → 3 * length line ≤ longest-text) where
+module _ (s : Settings) (line : List ℕ) (room : ℕ) (enough : log-room ≤ room)
+    (few : first-refused 0 line ≡ none → 3 * length line ≤ longest-text) where
   by-first : (o : Option Refused) → first-refused 0 line ≡ o → Not-8 o
-      → Fine (told (judge-line (length (drill s line)) log-room (length line) o))
+      → answered.Not-8 (told (judge-line (length (drill s line)) room (length line) o))
   by-first none e n =
-      let h : length (drill s line) ≤ log-room = omega (arith, short-log s line, few e) in
-      rw (le-leb (length (drill s line)) log-room h) (λ position f. let z : _≡_ {A = ℕ} 0 1 = cc in omega arith)
+      let h : length (drill s line) ≤ room = omega (arith, short-log s line, few e) in
+      rw (le-leb (length (drill s line)) room h) (λ position f. let z : _≡_ {A = ℕ} 0 1 = cc in omega arith)
   by-first (some r) e n =
-      both-ways Fine (eqb (r .number) 0) (λ position f. let z : _≡_ {A = ℕ} 0 1 = cc in omega arith) (λ position f. n (cc))
+      both-ways answered.Not-8 (eqb (r .number) 0) (λ position f. let z : _≡_ {A = ℕ} 0 1 = cc in omega arith) (λ position f. n (cc))
 
-  written : Fine (told (writing s line log-room))
+  written : answered.Not-8 (told (writing s line room))
   unfolding writing
   written =
-      both-ways (λ d. Fine (told d)) (in-range s) (by-first (first-refused 0 line) refl (none-8 0 line))
+      both-ways (λ d. answered.Not-8 (told d)) (in-range s) (by-first (first-refused 0 line) refl (none-8 0 line))
       (λ position f. let z : _≡_ {A = ℕ} 1 8 = cc in omega arith)
 
 pub room-suffices : Room-suffices
-room-suffices s text position short = by-decoding (decoded (line-of text)) refl
+room-suffices s text room short enough = by-decoding (decoded (line-of text)) refl
   where
-    by-decoding : (d : Decoding) → decoded (line-of text) ≡ d → answer-of s log-room d ≡ answers.Refused 8 position → ⊥
+    by-decoding : (d : Decoding) → decoded (line-of text) ≡ d → answered.Not-8 (answer-of s room d)
     by-decoding (words line) e =
-        written s line
-        (λ f. omega (arith, three-each 0 0 (line-of text) line e (accepted-wide 0 line f) (omega arith), short-front (line-size text) longest-text text short)) position
-    by-decoding (damaged at) e = λ f. let z : _≡_ {A = ℕ} 0 1 = cc in omega arith
+        let cut : length (line-of text) ≤ longest-text = short-front (line-size text) longest-text text short in
+        written s line room enough
+        (λ f. omega (arith, three-each 0 0 (line-of text) line e (accepted-wide 0 line f) (omega arith)))
+    by-decoding (damaged at) e = λ position f. let z : _≡_ {A = ℕ} 0 1 = cc in omega arith
+
+-- what `write` promises of a text
+module _ (s : Settings) (text run : List ℕ) (short : length text ≤ longest-text) (enough : log-room ≤ length run) where
+  pub never-refused-8 : (r : Answer) (after : List ℕ) → Drills s text run r after × Within (length run) r
+      → Drills s text run r after × (Within (length run) r × answered.Not-8 r)
+  never-refused-8 r after (d, w) = (d, (w, rw (d .answered) (room-suffices s text (length run) short enough)))

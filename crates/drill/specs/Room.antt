@@ -6,14 +6,17 @@ use lib.ListN.{length}
 use Rattle.rules.specs.declared.Settings.{Settings}
 use Rattle.decode.specs.Decoding.{decoded}
 use Rattle.drill.specs.Texts.{longest-text, line-of, answer-of}
+use Rattle.drill.specs.declared.lines.Answer.{Answer}
 use Rattle.drill.specs.declared.lines.Answer.the-variants.{Refused}
 
 -- 21,845 characters of three bytes fit a text, and the log of each takes at most 65 bytes, that of the settings 8
 abbrev pub log-room : ℕ
 log-room = 1419933
 
+abbrev pub Not-8 : Answer → Type 0
+Not-8 answer = (position : ℕ) → answer ≡ Refused 8 position → ⊥
+
 abbrev pub Room-suffices : Type 0
 Room-suffices =
-    (s : Settings) (text : List ℕ) (position : ℕ) → length text ≤ longest-text
-    → answer-of s log-room (decoded (line-of text)) ≡ Refused 8 position
-    → ⊥
+    (s : Settings) (text : List ℕ) (room : ℕ) → length text ≤ longest-text → log-room ≤ room
+    → Not-8 (answer-of s room (decoded (line-of text)))

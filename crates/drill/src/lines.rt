@@ -5,6 +5,7 @@ ghost use Prim.Native.Nat.{_≤_};
 ghost use mathlib.Core.Path.{_≡_};
 ghost use lib.ListN.{length};
 ghost use Rattle.drill.specs.Texts.{longest-text, line-size, Within, Answers, Drills};
+ghost use Rattle.drill.specs.Room.{log-room, Not-8};
 
 // The longest text that the program reads.
 pub const LONGEST_TEXT: usize = 65536;
@@ -19,8 +20,15 @@ pub enum Answer {
     Damaged(usize),
 }
 
+// Room for the words of every text: none has more words than bytes.
+fn word_buffer() -> [u16; LONGEST_TEXT]
+    ensures { λ r. ⌜ longest-text ≡ length r ⌝ }
+{
+    [0; LONGEST_TEXT]
+}
+
 // How many bytes of a text belong to its line: a line end behind it does not.
-fn size(text: &[u8]) -> usize
+pub fn size(text: &[u8]) -> usize
     ensures { λ r. ⌜ r ≡ line-size (now (text .entry)) ⌝ }
     ensures { λ r. ⌜ r ≤ length (now (text .entry)) ⌝ }
 {
@@ -45,18 +53,20 @@ fn write_line(settings: Settings, line: &[u16], log: &mut [u8]) -> Answer
     Answer::Refused(drilled.number, drilled.position)
 }
 
-// The log of a text at the front of a run.
+// The log of a text at the front of a run with room for it.
 pub fn write(settings: Settings, text: &[u8], log: &mut [u8]) -> Answer
     requires { ⌜ length (now text) ≤ longest-text ⌝ }
+    requires { ⌜ log-room ≤ length (now log) ⌝ }
     ensures { λ r. ⌜ Drills settings (now (text .entry)) (now (log .entry)) r (now (log .exit)) ⌝ }
     ensures { λ r. ⌜ Within (length (now (log .entry))) r ⌝ }
+    ensures { λ r. ⌜ Not-8 r ⌝ }
 {
-    let mut words = [0u16; 65536];
+    let mut words = word_buffer();
     let n = size(text);
     match decode::decode(&text[..n], &mut words) {
         Decoded::Words(k) => write_line(settings, &words[..k], log),
         Decoded::Damaged(position) => Answer::Damaged(position),
-        // No text has more words than bytes.
+        // There is room: `word_buffer`.
         Decoded::Full => Answer::Damaged(0),
     }
 }

@@ -5,46 +5,54 @@
 // of the log may have been written.
 mod arguments;
 mod lines;
+mod messages;
 
 use arguments::Asked;
+use input::Input;
 use libc::STDERR_FILENO;
-use libc::STDIN_FILENO;
 use libc::STDOUT_FILENO;
 use lines::Answer;
 use lines::LONGEST_TEXT;
 use rules::Settings;
+ghost use Prim.Native.Nat.{_≤_};
 ghost use mathlib.Core.Path.{_≡_};
 ghost use lib.ListN.{length};
-ghost use Rattle.drill.specs.Texts.{Within};
+ghost use Rattle.drill.specs.Texts.{longest-text, Within};
+ghost use Rattle.drill.specs.Room.{log-room};
 
-fn print_usage(fd: i32) {
-    io::write_all(fd, b"usage: drill [T J L SOLO] < LINE > LOG\n");
+// An accepted character has three bytes of UTF-8, so a text of 65,536 bytes has at most 21,845 of them. The strokes of one take at
+// most 65 bytes, and the settings take 8.
+const LOG_ROOM: usize = 1419933;
+
+// Room for every text that is not too long.
+fn text_buffer() -> [u8; LONGEST_TEXT]
+    ensures { λ r. ⌜ longest-text ≡ length r ⌝ }
+{
+    [0; LONGEST_TEXT]
+}
+
+// The log's buffer as it is given. A parameter's length is known by its type; that of `[0; LOG_ROOM]` takes too long to compute.
+fn with_room(log: [u8; LOG_ROOM]) -> [u8; LOG_ROOM]
+    ensures { λ r. ⌜ log-room ≡ length r ⌝ }
+{
+    log
+}
+
+// Room for the log of every such text.
+fn log_buffer() -> [u8; LOG_ROOM]
+    ensures { λ r. ⌜ log-room ≡ length r ⌝ }
+{
+    with_room([0; LOG_ROOM])
+}
+
+// Says that a text that begins with these bytes and has more is too long.
+fn print_longer(start: &[u8])
+    requires { ⌜ longest-text ≤ length (now start) ⌝ }
+{
     io::write_all(
-        fd,
-        b"Writes the log that plays a line of UTF-8 text. T is in milliseconds, J and L are\n",
+        STDERR_FILENO,
+        b"drill: standard input: longer than 65536 bytes\n",
     );
-    io::write_all(
-        fd,
-        b"percentages, SOLO is 0 or 1; without them they are 100 50 50 0.\n",
-    );
-}
-
-// Where in the line, and a line end, on standard error.
-fn print_position(position: usize) {
-    io::write_all(STDERR_FILENO, b" at ");
-    io::print_decimal(STDERR_FILENO, position as u64);
-    io::write_all(STDERR_FILENO, b"\n");
-}
-
-fn print_refused(number: u32, position: usize) {
-    io::write_all(STDERR_FILENO, b"refused ");
-    io::print_decimal(STDERR_FILENO, number as u64);
-    print_position(position);
-}
-
-fn print_damaged(position: usize) {
-    io::write_all(STDERR_FILENO, b"not UTF-8");
-    print_position(position);
 }
 
 fn print_log(log: &[u8]) {
@@ -55,58 +63,40 @@ fn print_log(log: &[u8]) {
 }
 
 // Prints what was answered of a text.
-fn show(answer: Answer, log: &[u8])
+fn show(answer: Answer, text: &[u8], log: &[u8])
     requires { ⌜ Within (length (now log)) answer ⌝ }
 {
     match answer {
         Answer::Log(n) => print_log(&log[..n]),
-        Answer::Refused(number, position) => print_refused(number, position),
-        Answer::Damaged(position) => print_damaged(position),
+        Answer::Refused(number, position) => messages::print_refused(number, position, text),
+        Answer::Damaged(position) => messages::print_damaged(position),
     }
 }
 
-// Room for the log of every text. An accepted character has three bytes of UTF-8, so a text of 65,536 bytes has at most 21,845 of
-// them. The strokes of one take at most 65 bytes, and the settings take 8.
-fn log_buffer() -> [u8; 1419933]
-    ensures { λ r. ⌜ 1419933 ≡ length r ⌝ }
+// Prints what a text gives, by way of a run with room for its log.
+fn print_drill(settings: Settings, text: &[u8], log: &mut [u8])
+    requires { ⌜ length (now text) ≤ longest-text ⌝ }
+    requires { ⌜ log-room ≤ length (now log) ⌝ }
 {
-    [0; 1419933]
+    let answer = lines::write(settings, text, log);
+    show(answer, text, log);
 }
 
 // Reads a text and prints what it gives.
 fn run(settings: Settings) {
-    let mut input = io::large_buffer();
+    let mut text = text_buffer();
     let mut log = log_buffer();
-    let n = io::read_full(STDIN_FILENO, &mut input);
-    // The input ends or a read failed: a read that failed leaves its reason.
-    if os::errno() != 0 {
-        os::fail(b"drill: standard input");
-        return;
+    match input::read(&mut text) {
+        Input::Whole(n) => print_drill(settings, &text[..n], &mut log),
+        Input::Longer => print_longer(&text),
+        Input::Failed => os::fail(b"drill: standard input"),
     }
-    // A full buffer: one read more tells a text that ends there from a longer one.
-    if n == LONGEST_TEXT {
-        let mut next = [0u8; 1];
-        let more = libc::read(STDIN_FILENO, &mut next);
-        if more < 0 {
-            os::fail(b"drill: standard input");
-            return;
-        }
-        if more != 0 {
-            io::write_all(
-                STDERR_FILENO,
-                b"drill: standard input: longer than 65536 bytes\n",
-            );
-            return;
-        }
-    }
-    let answer = lines::write(settings, &input[..n], &mut log);
-    show(answer, &log);
 }
 
 fn main() {
     match arguments::read() {
         Asked::Drill(settings) => run(settings),
-        Asked::Help => print_usage(STDOUT_FILENO),
-        Asked::Unclear => print_usage(STDERR_FILENO),
+        Asked::Help => messages::print_usage(STDOUT_FILENO),
+        Asked::Unclear => messages::print_usage(STDERR_FILENO),
     }
 }

@@ -7,7 +7,7 @@ use mathlib.Core.Bool.{true, false}
 use mathlib.Core.Path.{_≡_, refl, sym, ap, _∙_}
 use mathlib.Core.List.{List, [], _∷_, _++_}
 use mathlib.Core.Option.{Option, none, some, Option·some-injective, Option·none-ne-some}
-use lib.Dec.{leb}
+use lib.Dec.{ltb, leb}
 use lib.ListN.{length, take}
 use lib.Seq.{take-append-seam}
 use Rattle.rules.specs.Sequences.{waiting}
@@ -17,14 +17,15 @@ use Rattle.rules.specs.declared.Machine.{Machine}
 use Rattle.runs.specs.Filled.{filled, Stored}
 use Rattle.runs.proofs.Filling.{stored-both}
 use Rattle.text.specs.Text.{ascii, text, Encodes}
-use Rattle.text.specs.declared.Encoded.the-variants.{Full, Bytes}
+use Rattle.text.specs.declared.Encoded.the-variants as encoded-as
 use Rattle.text.proofs.Signs.{text-short}
 use Rattle.keylog.specs.Reader.{read, waiting-of, answer-of}
 use Rattle.keylog.specs.Runs.{as-it-is, encoded, Reads}
 use Rattle.keylog.specs.declared.LogAnswer.{LogAnswer}
 use Rattle.keylog.specs.Facts.{Enough}
 use Rattle.keylog.proofs.Room.{enough-room}
-use Rattle.report.specs.Printed.{room, line-end, status, status-of, printed, Reports}
+use Rattle.report.specs.Printed.{longest-log, room, printed-room, line-end, status, status-of, printed, number-of, offset-of, Reports}
+use Rattle.report.specs.declared.Answer.the-variants.{Full, Text}
 
 -- what is stored at a run's front fills it
 stored-filled : (new run : List ℕ) (n : ℕ) (after : List ℕ) → Stored 0 new run n after → (n ≡ length new) × (after ≡ filled new run)
@@ -35,14 +36,14 @@ filled-stored new run n after e f = record { behind = e ∙ sym (zero-add (lengt
 
 -- the answer of `encode` where the text fits
 module _ (words run after : List ℕ) (fits : length (text words) ≤ length run) where
-  pub line-stored : (n : ℕ) → Encodes words run (Bytes n) after → Stored 0 (text words) run n after
+  pub line-stored : (n : ℕ) → Encodes words run (encoded-as.Bytes n) after → Stored 0 (text words) run n after
   line-stored n e =
       let t : leb (length (text words)) (length run) ≡ true = le-leb (length (text words)) (length run) fits in
       filled-stored (text words) run n after
       (Option·some-injective n (length (text words)) (rw t at (e .answered)))
       (rw t at (e .written))
 
-  pub line-fits : Encodes words run Full after → ⊥
+  pub line-fits : Encodes words run encoded-as.Full after → ⊥
   line-fits e =
       let t : leb (length (text words)) (length run) ≡ true = le-leb (length (text words)) (length run) fits in
       Option·none-ne-some (length (text words)) (rw t at (e .answered))
@@ -66,10 +67,10 @@ few-waiting none = omega arith
 few-waiting (some m) = few-wait (m .resting)
 
 -- A log that is not too long, read into a run of words.
-module _ (log words : List ℕ) (a : LogAnswer) (after : List ℕ) (short : length log ≤ 65536) (long : length words ≡ room)
+module _ (log words : List ℕ) (a : LogAnswer) (after : List ℕ) (short : length log ≤ longest-log) (long : room ≡ length words)
     (r : Reads as-it-is (length words) log words a after) where
   read-here : Reads as-it-is room log words a after
-  read-here = rw (← long) r
+  read-here = rw long r
 
   enough : Enough (read room log) (length log)
   enough = enough-room room log (omega arith)
@@ -103,23 +104,37 @@ module _ (log words : List ℕ) (a : LogAnswer) (after : List ℕ) (short : leng
       let line : List ℕ = text (read room log .words) in
       let last : List ℕ = status-of (answer-of (read room log)) in
       let w : Stored n2 last m2 n3 m3 = rw (read-here .answered) at u in
-      rw (le-ltb 65536 (length log) short)
+      rw (le-ltb longest-log (length log) short)
       (stored-both 0 (line ++ line-end ++ last) line-end run n3 m3 n4 m4 (omega arith)
       (stored-both 0 (line ++ line-end) last run n2 m2 n3 m3 (omega arith)
       (stored-both 0 line line-end run n1 m1 n2 m2 (omega arith) (rw the-words at s) t) w) v)
 
+  pub number-told : a .number ≡ number-of log
+  unfolding number-of
+  number-told = rw (le-ltb longest-log (length log) short) (ap (λ (x : LogAnswer). x .number) (read-here .answered))
+
+  pub offset-told : a .offset ≡ offset-of log
+  unfolding offset-of
+  offset-told = rw (le-ltb longest-log (length log) short) (ap (λ (x : LogAnswer). x .offset) (read-here .answered))
+
 -- the contract of `report`
 module _ (log run : List ℕ) where
-  pub too-short : length run < 32768 → Reports log run Full run
-  too-short h = let t : leb 32768 (length run) ≡ false = lt-leb 32768 (length run) h in record { answered = rw t; written = rw t }
+  pub too-short : length run < printed-room → Reports log run Full run
+  too-short h =
+      let t : leb printed-room (length run) ≡ false = lt-leb printed-room (length run) h in
+      record { answered = rw t; written = rw t }
 
-  module _ (h : 32768 ≤ length run) (n : ℕ) (after : List ℕ) where
-    pub reported : Stored 0 (printed log) run n after → Reports log run (Bytes n) after
-    reported s =
-        let t : leb 32768 (length run) ≡ true = le-leb 32768 (length run) h in
-        let f : (n ≡ length (printed log)) × (after ≡ filled (printed log) run) = stored-filled (printed log) run n after s in
-        record { answered = rw (t, f .0); written = rw (t, f .1) }
+  module _ (h : printed-room ≤ length run) (n : ℕ) (after : List ℕ) where
+    pub reported : (number offset : ℕ) → Stored 0 (printed log) run n after → number ≡ number-of log → offset ≡ offset-of log
+        → Reports log run (Text n number offset) after
+    reported number offset s e f =
+        let t : leb printed-room (length run) ≡ true = le-leb printed-room (length run) h in
+        let g : (n ≡ length (printed log)) × (after ≡ filled (printed log) run) = stored-filled (printed log) run n after s in
+        record { answered = rw (t, g .0, e, f); written = rw (t, g .1) }
 
-    pub too-long : 65536 < length log → Stored 0 (ascii "refused 9 at 65536" ++ line-end) run n after → Reports log run (Bytes n) after
-    unfolding printed
-    too-long l s = reported (rw (lt-ltb 65536 (length log) l) s)
+    pub too-long : longest-log < length log → Stored 0 (ascii "refused 9 at 65536" ++ line-end) run n after
+        → Reports log run (Text n 9 longest-log) after
+    unfolding printed number-of offset-of
+    too-long l s =
+        let t : ltb longest-log (length log) ≡ true = lt-ltb longest-log (length log) l in
+        reported 9 longest-log (rw t s) (rw t) (rw t)

@@ -1,17 +1,37 @@
 // What the program prints for a log, as text in a lent run.
 use text::Encoded;
 ghost use Prim.Native.Nat.{ℕ, _+_, _≤_, _<_};
+ghost use mathlib.Core.Path.{_≡_};
 ghost use mathlib.Core.List.{List};
 ghost use lib.ListN.{length};
 ghost use Rattle.runs.specs.Filled.{Stored};
 ghost use Rattle.text.specs.Text as texts;
 ghost use Rattle.report.specs.Decimal.{decimal};
-ghost use Rattle.report.specs.Printed.{longest-log, status, printed, Reports, Within};
+ghost use Rattle.report.specs.Printed.{longest-log, room, printed-room, status, printed, Reports, Within};
 
 // The longest log that the program reads.
 pub const LONGEST_LOG: usize = 65536;
 // A run of this length has room for what is printed of any log.
 pub const ROOM: usize = 32768;
+// A run of this length has room for the words of any log that is not too long.
+const WORD_ROOM: usize = 10083;
+
+pub enum Answer {
+    // The run is shorter than `ROOM`, and nothing was written.
+    Full,
+    // The text was written, in so many bytes; the number and the offset are those of the log.
+    Text {
+        bytes: usize,
+        number: u32,
+        offset: usize,
+    },
+}
+
+fn word_buffer() -> [u16; WORD_ROOM]
+    ensures { λ r. ⌜ room ≡ length r ⌝ }
+{
+    [0; WORD_ROOM]
+}
 
 // Some bytes at a place where they fit. Answers the place behind them.
 fn put_bytes(out: &mut [u8], at: usize, bytes: &[u8]) -> usize
@@ -66,14 +86,14 @@ fn put_line(out: &mut [u8], words: &[u16]) -> usize
     }
 }
 
-// What is printed of a log that is not too long.
-fn put_report(out: &mut [u8], log: &[u8]) -> usize
-    requires { ⌜ length (now log) ≤ 65536 ⌝ }
-    requires { ⌜ 32768 ≤ length (now out) ⌝ }
-    ensures { λ r. ⌜ Stored 0 (printed (now (log .entry))) (now (out .entry)) r (now (out .exit)) ⌝ }
-    ensures { λ r. ⌜ r ≤ 32768 ⌝ }
+// What is printed of a log that is not too long, where there is room.
+fn put_report(out: &mut [u8], log: &[u8]) -> Answer
+    requires { ⌜ length (now log) ≤ longest-log ⌝ }
+    requires { ⌜ printed-room ≤ length (now out) ⌝ }
+    ensures { λ r. ⌜ Reports (now (log .entry)) (now (out .entry)) r (now (out .exit)) ⌝ }
+    ensures { λ r. ⌜ Within (length (now (out .entry))) r ⌝ }
 {
-    let mut words = [0u16; 10083];
+    let mut words = word_buffer();
     let read = keylog::read_log(log, &mut words);
     let n = read.words;
     let line = put_line(out, &words[..n]);
@@ -85,23 +105,32 @@ fn put_report(out: &mut [u8], log: &[u8]) -> usize
         read.waiting as u64,
         read.offset as u64,
     );
-    put_bytes(out, status, b"\n")
+    let behind = put_bytes(out, status, b"\n");
+    Answer::Text {
+        bytes: behind,
+        number: read.number,
+        offset: read.offset,
+    }
 }
 
 // What is printed of every log that is too long, at the front of a run of at least `ROOM` bytes.
-pub fn too_long(out: &mut [u8]) -> Encoded
+pub fn too_long(out: &mut [u8]) -> Answer
     ensures { λ r. ⌜ ((log : List ℕ) → longest-log < length log → Reports log (now (out .entry)) r (now (out .exit))) ⌝ }
     ensures { λ r. ⌜ Within (length (now (out .entry))) r ⌝ }
 {
     if out.len() < ROOM {
-        return Encoded::Full;
+        return Answer::Full;
     }
     let behind = put_bytes(out, 0, b"refused 9 at 65536\n");
-    Encoded::Bytes(behind)
+    Answer::Text {
+        bytes: behind,
+        number: 9,
+        offset: LONGEST_LOG,
+    }
 }
 
 // What is printed of a log, at the front of a run of at least `ROOM` bytes.
-pub fn report(log: &[u8], out: &mut [u8]) -> Encoded
+pub fn report(log: &[u8], out: &mut [u8]) -> Answer
     ensures { λ r. ⌜ Reports (now (log .entry)) (now (out .entry)) r (now (out .exit)) ⌝ }
     ensures { λ r. ⌜ Within (length (now (out .entry))) r ⌝ }
 {
@@ -109,8 +138,7 @@ pub fn report(log: &[u8], out: &mut [u8]) -> Encoded
         return too_long(out);
     }
     if out.len() < ROOM {
-        return Encoded::Full;
+        return Answer::Full;
     }
-    let behind = put_report(out, log);
-    Encoded::Bytes(behind)
+    put_report(out, log)
 }

@@ -1,15 +1,20 @@
+-- `drill::show` meets its contract: the log that is written lies within the run.
 use borrow.Author.Needs.{needs}
 use mathlib.Core.Path.{sym}
 use lib.Seq.{length-take-le}
 use Rattle.drill.proofs.show.Statement.{statement}
 use Rattle.drill.proofs.show.Tie as tie
 
+slice-aggregate-print-log : tie.Need-slice-aggregate-print-log
+slice-aggregate-print-log c =
+    sym (length-take-le _ _ (rw (c .before .before .answer .given .1) at (c .before .before .before .before .before .before .pre)))
+
 pub show-spec : {M : Type 1} → statement M
 show-spec =
     tie.close
     (tie.spec
     (λ c. search needs)
-    (λ c. sym (length-take-le _ _ (rw (c .before .before .answer .given .1) at (c .before .before .before .before .before .pre))))
+    slice-aggregate-print-log
     (λ c κs. search needs)
     (λ c. search needs)
     (λ c κs. search needs)

@@ -1,7 +1,6 @@
 -- `report::report` meets its contract.
 use borrow.Author.Needs.{needs}
-use native.Mathlib.Omega.{arith}
-use Rattle.report.proofs.Reporting.{too-short, reported}
+use Rattle.report.proofs.Reporting.{too-short}
 use Rattle.report.proofs.report.Statement.{statement}
 use Rattle.report.proofs.report.Tie as tie
 
@@ -15,4 +14,4 @@ report-spec =
     (λ c. (too-short _ _ (c .if2 .taken), tt))
     (λ c κs. search needs)
     (λ c. c .before .before .put-report .kept .0)
-    (λ c. (reported _ _ (c .before .before .before .before .if2 .left) _ _ (c .before .before .put-report .ensures .0), omega (arith, c .before .before .put-report .ensures .1))))
+    (λ c. c .before .before .put-report .ensures))

@@ -1,0 +1,64 @@
+// Standard input, read to its end into a lent buffer. errno is never looked at here: it means something only after `Failed`.
+use libc::STDIN_FILENO;
+ghost use lib.ListN.{length};
+ghost use Rattle.input.specs.Reads.{Taken, Within};
+
+// What one read gave.
+enum Piece {
+    // So many bytes, at least one, at the buffer's front.
+    Bytes(usize),
+    End,
+    Failed,
+}
+
+// What standard input gave.
+pub enum Input {
+    // It ended, and so many bytes at the buffer's front are all of it.
+    Whole(usize),
+    // Its first bytes fill the buffer, and more follow.
+    Longer,
+    // A read failed, and errno says why.
+    Failed,
+}
+
+// One read into a buffer that is not empty.
+fn read_piece(buf: &mut [u8]) -> Piece
+    ensures { λ r. ⌜ Taken (length (now (buf .entry))) r ⌝ }
+{
+    let got = libc::read(STDIN_FILENO, buf);
+    if got < 0 {
+        return Piece::Failed;
+    }
+    let n = io::count(got, buf);
+    if n == 0 {
+        return Piece::End;
+    }
+    Piece::Bytes(n)
+}
+
+// Behind n bytes that fill the buffer: one read more tells input that ends there from a longer one.
+fn behind(n: usize) -> Input
+    ensures { λ r. ⌜ Within n r ⌝ }
+{
+    let mut next = [0u8; 1];
+    match read_piece(&mut next) {
+        Piece::Bytes(_) => Input::Longer,
+        Piece::End => Input::Whole(n),
+        Piece::Failed => Input::Failed,
+    }
+}
+
+// Reads standard input to its end, or until the buffer is full.
+pub fn read(buf: &mut [u8]) -> Input
+    ensures { λ r. ⌜ Within (length (now (buf .entry))) r ⌝ }
+{
+    let mut n = 0;
+    while n < buf.len() {
+        match read_piece(&mut buf[n..]) {
+            Piece::Bytes(k) => n += k,
+            Piece::End => return Input::Whole(n),
+            Piece::Failed => return Input::Failed,
+        }
+    }
+    behind(n)
+}

@@ -1,0 +1,48 @@
+// What the program says besides the text: how to use it, and what a refusal means.
+use libc::STDERR_FILENO;
+
+pub fn print_usage(fd: i32) {
+    io::write_all(fd, b"usage: play < LOG\n");
+    io::write_all(
+        fd,
+        b"Prints the line that a recorded log gives, and below it `waiting N`, or `refused N at OFFSET`,\n",
+    );
+    io::write_all(
+        fd,
+        b"where standard error says what the refusal means. A log has at most 65536 bytes.\n",
+    );
+}
+
+fn meaning(number: u32) {
+    match number {
+        1 => io::write_all(
+            STDERR_FILENO,
+            b"settings out of range: T is 50 to 1000, J and L are 1 to 99, solo is 0 or 1\n",
+        ),
+        3 => io::write_all(STDERR_FILENO, b"kind or key not allowed\n"),
+        4 => io::write_all(STDERR_FILENO, b"stamp above the largest, 1000000000000\n"),
+        5 => io::write_all(STDERR_FILENO, b"stamp before the last accepted one\n"),
+        6 => io::write_all(STDERR_FILENO, b"log empty, or header or body cut\n"),
+        7 => io::write_all(
+            STDERR_FILENO,
+            b"tag unknown, length wrong, or settings missing first or met again\n",
+        ),
+        _ => io::write_all(STDERR_FILENO, b"refused\n"),
+    }
+    ;
+}
+
+// What a log's number means, on standard error. Nothing for 0.
+pub fn explain(number: u32, offset: usize) {
+    if number == 0 {
+        return;
+    }
+    if number == 9 {
+        io::write_all(STDERR_FILENO, b"play: the log is longer than 65536 bytes\n");
+        return;
+    }
+    io::write_all(STDERR_FILENO, b"play: record at byte ");
+    io::print_decimal(STDERR_FILENO, offset as u64);
+    io::write_all(STDERR_FILENO, b": ");
+    meaning(number);
+}
