@@ -320,7 +320,7 @@ const BASES: [(RawSettings, &str); 4] = [
     ),
 ];
 
-fn base_logs() -> impl Iterator<Item = Vec<u8>> {
+pub fn base_logs() -> impl Iterator<Item = Vec<u8>> {
     BASES.iter().map(|(raw, text)| log_of(*raw, &notation::events(text).unwrap_or_default()))
 }
 

@@ -1,4 +1,4 @@
-//! An independent model of document 01 and of requests 1/12 to 4/12 of document
+//! An independent model of document 01 and of requests 1/12 to 5/12 of document
 //! 02, and what the tests make with it.
 
 pub mod arguments;
@@ -11,7 +11,9 @@ pub mod log;
 pub mod model;
 pub mod notation;
 pub mod overlaps;
+pub mod pieces;
 pub mod program;
 pub mod random;
+pub mod readers;
 pub mod states;
 pub mod tally;

@@ -5,6 +5,7 @@
 
 mod check_drill;
 mod check_live;
+mod check_pieces;
 mod worked;
 
 use std::collections::BTreeSet;
@@ -85,6 +86,7 @@ fn check_all() -> Result<(), String> {
     check_program()?;
     check_drill::check_all()?;
     check_live::check_all()?;
+    check_pieces::check_all()?;
     check_demand3()?;
     check_rules_reached()
 }

@@ -75,6 +75,11 @@ impl Settings {
         in_range.then_some(Settings { t, j, l, solo: solo == 1, slip })
     }
 
+    /// T, J, L, solo: in range, so they fit.
+    pub fn numbers(&self) -> (u16, u8, u8, u8) {
+        (self.t as u16, self.j as u8, self.l as u8, u8::from(self.solo))
+    }
+
     fn slips(&self, slip: Slip) -> bool {
         self.slip == Some(slip)
     }

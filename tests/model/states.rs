@@ -278,7 +278,7 @@ const BASES: [Flat; 11] = [
 ];
 
 /// What is put into each place of the numbers.
-const VALUES: [u64; 30] = [
+pub const VALUES: [u64; 30] = [
     0,
     1,
     2,
@@ -312,10 +312,10 @@ const VALUES: [u64; 30] = [
 ];
 
 /// How many places the numbers have.
-const PLACES: usize = 11;
+pub const PLACES: usize = 11;
 
 /// A number put into one place; none if it is too large for it.
-fn with(flat: Flat, place: usize, value: u64) -> Option<Flat> {
+pub fn with(flat: Flat, place: usize, value: u64) -> Option<Flat> {
     let byte = u8::try_from(value).ok();
     Some(match place {
         0 => Flat { last: value, ..flat },

@@ -1,0 +1,276 @@
+//! Makes readers as numbers for the tests, with pieces for them: random ones in the
+//! middle of a log, near every bound, ones that are not well formed or name no
+//! reader, and a fixed set that tries every place of the numbers. And random ways to
+//! cut a log.
+
+use crate::generate::{random_events, right_settings, wrong_settings};
+use crate::live::{self, Flat};
+use crate::log::{event_record, settings_record};
+use crate::model::Event;
+use crate::pieces::{FlatReader, Reader, LONGEST_LOG, LONGEST_RECORD};
+use crate::random::Random;
+use crate::states::{self, broken_state, nameless_state, right_state};
+
+/// A reader, the piece that it is given and the length of that piece's run.
+pub struct Call {
+    pub reader: FlatReader,
+    pub piece: Vec<u8>,
+    pub room: usize,
+}
+
+// ---- Random calls ----
+
+/// Any reader, most of them well formed, and a piece that often goes on where it is.
+pub fn random_call(random: &mut Random) -> Call {
+    let machine = random_machine(random);
+    let bytes = random_records(random, &machine);
+    let count = random_count(random, &bytes);
+    let (begun, rest) = bytes.split_at(count);
+    let piece = random_part(random, rest);
+    let offset = random_offset(random, (count + piece.len()) as u64);
+    let most_words = 2 * offset / 13;
+    let words = random.pick(&[0, most_words / 2, most_words.saturating_sub(1), most_words]);
+    let begun = FlatReader::of(&Reader { begun: begun.to_vec(), ..Reader::fresh() });
+    let reader = FlatReader { machine, offset, words, ..begun };
+    let reader = match random.below(16) {
+        0..=2 => broken(random, reader),
+        3 | 4 => told(random, reader),
+        5 => stray(random, reader),
+        _ => reader,
+    };
+    let most = 4 * (piece.len() / 13 + 2);
+    let room = if random.once_in(3) { random.place(8) } else { most + random.place(2) };
+    Call { reader, piece, room }
+}
+
+/// None yet, as all zeros, or one that is well formed.
+fn random_machine(random: &mut Random) -> Flat {
+    if random.once_in(5) {
+        Flat::default()
+    } else {
+        right_state(random)
+    }
+}
+
+/// Records that may come next, some of them refused.
+fn random_records(random: &mut Random, machine: &Flat) -> Vec<u8> {
+    let first = random_record(random);
+    let Ok(machine) = machine.machine(live::Wrong::default()) else {
+        let (t, j, l, solo) = match random.once_in(6) {
+            true => wrong_settings(random),
+            false => right_settings(random),
+        };
+        let opened = settings_record(t, j, l, solo);
+        let event = event_record(Event { kind: 1, key: 21, stamp: 5 });
+        return if random.once_in(4) { first } else { [opened, event].concat() };
+    };
+    let (count, refusals) = (random.place(6), random.once_in(3));
+    let events = random_events(random, machine, count, refusals);
+    let records = events.into_iter().flat_map(event_record);
+    if random.once_in(4) {
+        first.into_iter().chain(records).collect()
+    } else {
+        records.collect()
+    }
+}
+
+/// A record with any tag and length, mostly short; its body any bytes.
+fn random_record(random: &mut Random) -> Vec<u8> {
+    let tag = random.pick(&[0, 1, 2, 2, 3, 9, 255]);
+    let length = match random.below(16) {
+        0 => random.pick(&[255, 256, 257, 511, 1_000]),
+        1 if random.once_in(8) => random.pick(&[65_534, 65_535]),
+        2..=4 => random.pick(&[5, 10]),
+        _ => random.below(16) as u16,
+    };
+    let [high, low] = length.to_be_bytes();
+    let body = (0..length).map(|_| random.byte());
+    [tag, high, low].into_iter().chain(body).collect()
+}
+
+/// How many bytes of the first record came: fewer than it has.
+fn random_count(random: &mut Random, bytes: &[u8]) -> usize {
+    let byte = |place: usize| bytes.get(place).copied().map_or(0, usize::from);
+    let length = 3 + 256 * byte(1) + byte(2);
+    let count = match random.below(4) {
+        0 => 0,
+        1 => length - 1,
+        _ => random.place(length),
+    };
+    count.min(bytes.len())
+}
+
+/// All of the rest, none of it, or a part.
+fn random_part(random: &mut Random, rest: &[u8]) -> Vec<u8> {
+    let length = match random.below(6) {
+        0 => 0,
+        1 => random.pick(&[1, 2, 3, 13]),
+        2 => random.place(rest.len() + 1),
+        _ => rest.len(),
+    };
+    rest[..length.min(rest.len())].to_vec()
+}
+
+/// Where the begun record starts: near 0, far, or so that these bytes end at or
+/// beside the longest log.
+fn random_offset(random: &mut Random, bytes: u64) -> u64 {
+    let limit = LONGEST_LOG - bytes;
+    match random.below(10) {
+        0 => 0,
+        1..=4 => random.below(5_000),
+        5 => random.below(limit),
+        6 => limit + 1,
+        7 | 8 => limit,
+        _ => limit - random.between(1, 20),
+    }
+}
+
+/// With an answer for good, mostly one that a reader can have.
+fn told(random: &mut Random, reader: FlatReader) -> FlatReader {
+    let number = random.pick(&[0, 0, 1, 3, 4, 5, 6, 7, 8, 9]);
+    let between = FlatReader { count: 0, header: 0, front: 0, tail: 0, ..reader };
+    let reader = if random.once_in(4) { reader } else { between };
+    FlatReader { told: 1, number, ..reader }
+}
+
+/// With bits above the bytes that came, which say nothing.
+fn stray(random: &mut Random, reader: FlatReader) -> FlatReader {
+    let (header, front, tail) = (random.next(), random.next(), random.next());
+    let bits = FlatReader { header, front, tail, ..reader };
+    let named = bits.clean();
+    FlatReader {
+        header: reader.header | header ^ named.header,
+        front: reader.front | front ^ named.front,
+        tail: reader.tail | tail ^ named.tail,
+        ..reader
+    }
+}
+
+/// With one clause of well-formedness broken, or no reader at all.
+fn broken(random: &mut Random, reader: FlatReader) -> FlatReader {
+    let length = 3 + reader.header % 65_536;
+    let beyond = random.pick(&[LONGEST_LOG + 1, LONGEST_LOG + 256, 1 << 63, u64::MAX]);
+    let bound = 2 * reader.offset / 13;
+    match random.below(8) {
+        0 => FlatReader { machine: broken_state(random), ..reader },
+        1 => FlatReader { machine: nameless_state(random), ..reader },
+        2 => FlatReader { offset: beyond, ..reader },
+        3 => FlatReader { count: random.pick(&[length, length + 1, beyond]), ..reader },
+        4 => {
+            let many = random.pick(&[bound + 1, bound + 2, u64::MAX / 13 + 1, u64::MAX]);
+            FlatReader { words: many, ..reader }
+        }
+        5 => FlatReader { told: 0, number: random.pick(&[1, 2, 6, 9, u32::MAX]), ..reader },
+        6 => FlatReader { told: 1, number: random.pick(&[2, 10, 11, u32::MAX]), ..reader },
+        _ => FlatReader { told: random.pick(&[2, 3, 256, u32::MAX]), ..reader },
+    }
+}
+
+// ---- Ways to cut a log ----
+
+/// The lengths of the pieces of a log of this length: of one size or of any, with
+/// empty ones among them.
+pub fn random_cut(random: &mut Random, length: usize) -> Vec<usize> {
+    let size = random.pick(&[1, 2, 7, 13, 64, 0]);
+    let mut left = length;
+    let mut pieces = vec![];
+    while left > 0 {
+        let any = random.pick(&[0, 1, 2, 7, 13, 64, 100, 1_000, 5_000, 65_536]);
+        let piece = if size == 0 { random.place(any + 1) } else { size }.min(left);
+        left -= piece;
+        pieces.push(piece);
+    }
+    if random.once_in(4) {
+        pieces.insert(random.place(pieces.len() + 1), 0);
+    }
+    pieces
+}
+
+// ---- Every place of the numbers ----
+
+const OPENED: Flat =
+    Flat { last: 50, m: 0, o: 0, r: 0, t: 100, j: 50, l: 50, solo: 1, state: 1, key: 0, thumb: 0 };
+const WAITING: Flat = Flat { state: 2, key: 21, m: 50, ..OPENED };
+const NONE: Flat =
+    Flat { last: 0, m: 0, o: 0, r: 0, t: 0, j: 0, l: 0, solo: 0, state: 0, key: 0, thumb: 0 };
+const FRESH: FlatReader = FlatReader {
+    machine: NONE,
+    offset: 0,
+    words: 0,
+    count: 0,
+    header: 0,
+    front: 0,
+    tail: 0,
+    told: 0,
+    number: 0,
+};
+const BETWEEN: FlatReader = FlatReader { machine: WAITING, offset: 1_021, words: 157, ..FRESH };
+
+/// Between two records, within one at every part of it, after a refusal and after the
+/// end, and near the longest log.
+const BASES: [FlatReader; 11] = [
+    FRESH,
+    FlatReader { count: 7, header: 0x01_0005, front: 100, tail: 0x3232, ..FRESH },
+    FlatReader { machine: OPENED, offset: 8, ..FRESH },
+    BETWEEN,
+    FlatReader { count: 2, header: 0x0200, ..BETWEEN },
+    FlatReader { count: 4, header: 0x02_000a, front: 2, ..BETWEEN },
+    FlatReader { count: 12, header: 0x02_000a, front: 0x0215, tail: 0, ..BETWEEN },
+    FlatReader { count: 40, header: 0x09_ffff, front: 0xffff, tail: u64::MAX, ..BETWEEN },
+    FlatReader { told: 1, number: 7, ..BETWEEN },
+    FlatReader { told: 1, ..BETWEEN },
+    FlatReader { offset: LONGEST_LOG - 13, ..BETWEEN },
+];
+
+/// What is put into each place besides the values of a state's places.
+const MORE_VALUES: [u64; 15] = [
+    9,
+    10,
+    11,
+    12,
+    13,
+    14,
+    157,
+    158,
+    1_021,
+    0x01_0005,
+    0x02_000a,
+    0x09_ffff,
+    LONGEST_RECORD - 1,
+    LONGEST_RECORD,
+    LONGEST_LOG - 12,
+];
+
+/// A number put into one place; none if it is too large for it.
+fn with(reader: FlatReader, place: usize, value: u64) -> Option<FlatReader> {
+    let short = u32::try_from(value).ok();
+    Some(match place {
+        0 => FlatReader { offset: value, ..reader },
+        1 => FlatReader { words: value, ..reader },
+        2 => FlatReader { count: value, ..reader },
+        3 => FlatReader { header: value, ..reader },
+        4 => FlatReader { front: value, ..reader },
+        5 => FlatReader { tail: value, ..reader },
+        6 => FlatReader { told: short?, ..reader },
+        7 => FlatReader { number: short?, ..reader },
+        _ => FlatReader { machine: states::with(reader.machine, place - 8, value)?, ..reader },
+    })
+}
+
+/// Hands over every call of the fixed set; stops at the first error.
+pub fn every_call<E>(mut visit: impl FnMut(Call) -> Result<(), E>) -> Result<(), E> {
+    let up = event_record(Event { kind: 2, key: 21, stamp: 60 });
+    let settings = settings_record(100, 50, 50, 1);
+    let pieces = [&[][..], &[10], &up, &up[1..], &up[12..], &settings, &[9, 255, 255], &[9, 0, 0]];
+    for base in BASES {
+        for place in 0..8 + states::PLACES {
+            let values = states::VALUES.iter().chain(&MORE_VALUES);
+            for reader in values.filter_map(|value| with(base, place, *value)) {
+                for (piece, room) in pieces.iter().flat_map(|piece| [(piece, 9), (piece, 1)]) {
+                    visit(Call { reader, piece: piece.to_vec(), room })?;
+                }
+            }
+        }
+    }
+    Ok(())
+}
