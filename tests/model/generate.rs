@@ -1,5 +1,6 @@
 //! Makes logs for the tests: random ones that crowd around the places where a
-//! rule turns, a fixed set damaged at every place, and long typed ones.
+//! rule turns, a fixed set damaged at every place, long typed ones, and typing
+//! without end.
 
 use crate::log::{event_record, log_of, read_log, settings_record, RawSettings};
 use crate::model::{
@@ -426,6 +427,34 @@ pub fn typed_log(random: &mut Random, raw: RawSettings, bytes: usize) -> Vec<u8>
     events.sort_by_key(|event| event.stamp);
     events.truncate(count);
     log_of(raw, &events)
+}
+
+/// Events without end as in a typed log, in the order of their stamps, and few at a
+/// time in memory.
+pub struct Typing {
+    random: Random,
+    now: u64,
+    waiting: Vec<Event>,
+}
+
+impl Typing {
+    pub fn new(seed: u64) -> Typing {
+        Typing { random: Random::new(seed), now: 0, waiting: vec![] }
+    }
+}
+
+impl Iterator for Typing {
+    type Item = Event;
+
+    fn next(&mut self) -> Option<Event> {
+        // No stroke to come has an event before `now`.
+        while self.waiting.first().is_none_or(|event| event.stamp > self.now) {
+            type_one(&mut self.random, self.now, &mut self.waiting);
+            self.waiting.sort_by_key(|event| event.stamp);
+            self.now += self.random.between(70, 220);
+        }
+        Some(self.waiting.remove(0))
+    }
 }
 
 /// One stroke that starts at `now`.

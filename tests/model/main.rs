@@ -1,7 +1,8 @@
 //! `model check` tries the model against every worked example of the papers, and
 //! demand 3, the round trip of drills and the distance on random sequences, lines
 //! and states. `model play` and `model drill` print what the program of that name
-//! prints for its standard input, by the model.
+//! prints for its standard input, by the model. `model long` writes a typed log of so
+//! many MiB and keeps little of it in memory.
 
 mod check_drill;
 mod check_live;
@@ -9,14 +10,15 @@ mod check_pieces;
 mod worked;
 
 use std::collections::BTreeSet;
-use std::io::{Read, Write};
+use std::io::{BufWriter, Read, Write};
 use std::process::ExitCode;
 
 use trabeculon_model::demand3;
 use trabeculon_model::drill::{drill, USUAL_SETTINGS};
 use trabeculon_model::generate;
 use trabeculon_model::log::{
-    log_of, play, read_log, read_log_bytes, settings_record, Answer, RawSettings, BUFFER,
+    event_record, log_of, play, read_log, read_log_bytes, settings_record, Answer, RawSettings,
+    BUFFER,
 };
 use trabeculon_model::model::{
     character, sign, step, Event, Face, Item, Machine, Resting, Settings, Thumb, KEYS,
@@ -36,6 +38,7 @@ fn main() -> ExitCode {
         ["drill", t, j, l, solo] => {
             raw_settings([t, j, l, solo]).ok_or(usage()).and_then(drill_input)
         }
+        ["long", mib] => mib.parse().map_err(|_| usage()).and_then(write_long),
         _ => Err(usage()),
     };
     match done {
@@ -48,7 +51,8 @@ fn main() -> ExitCode {
 }
 
 fn usage() -> String {
-    "usage: model check | model play < LOG | model drill [T J L SOLO] < LINE".to_string()
+    "usage: model check | model play < LOG | model drill [T J L SOLO] < LINE | model long MIB > LOG"
+        .to_string()
 }
 
 fn raw_settings([t, j, l, solo]: [&str; 4]) -> Option<RawSettings> {
@@ -65,6 +69,25 @@ fn drill_input(settings: RawSettings) -> Result<(), String> {
         Some(Err(refusal)) => Err(refusal.trim_end().to_string()),
         None => Err("damaged UTF-8 or a code point above 65,535".to_string()),
     }
+}
+
+/// No stamp of so much typing is above the largest.
+const MOST_MIB: u64 = 100_000;
+const LONG_SEED: u64 = 20_010_401;
+
+/// A valid log of at most so many MiB.
+fn write_long(mib: u64) -> Result<(), String> {
+    if !(1..=MOST_MIB).contains(&mib) {
+        return Err(format!("a log has 1 to {MOST_MIB} MiB"));
+    }
+    let settings = settings_record(100, 50, 50, 1);
+    let events = ((mib << 20) as usize - settings.len()) / 13;
+    let mut output = BufWriter::with_capacity(BUFFER, std::io::stdout().lock());
+    let mut write = |bytes: &[u8]| output.write_all(bytes).map_err(|e| e.to_string());
+    write(&settings)?;
+    let mut typing = generate::Typing::new(LONG_SEED).take(events);
+    typing.try_for_each(|event| write(&event_record(event)))?;
+    output.flush().map_err(|e| e.to_string())
 }
 
 fn read_input() -> Result<Vec<u8>, String> {
