@@ -114,7 +114,7 @@ fn compare_reader(arguments: &Arguments) -> Result<(), String> {
 fn compare(random: &mut Random, slip: Option<Slip>, case: &Case) -> Result<Answer, String> {
     let start = GUARD + random.place(8);
     let end = start + case.room;
-    let before = random_bytes(random, end + GUARD);
+    let before = random.bytes(end + GUARD);
     let log = case.log.clone();
 
     let mut left = before.clone();
@@ -142,14 +142,4 @@ fn compare(random: &mut Random, slip: Option<Slip>, case: &Case) -> Result<Answe
         hex(&left[start..end]),
         hex(&right[start..end]),
     ))
-}
-
-/// What the run holds before, different for each log.
-fn random_bytes(random: &mut Random, length: usize) -> Vec<u8> {
-    let mut bytes = Vec::with_capacity(length + 8);
-    while bytes.len() < length {
-        bytes.extend(random.next().to_le_bytes());
-    }
-    bytes.truncate(length);
-    bytes
 }

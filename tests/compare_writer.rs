@@ -5,11 +5,11 @@
 use trabeculon_model::drill::{write_drill_bytes_with, Drill, WriterSlip};
 use trabeculon_model::lines::{every_drill, random_drill, DrillCase};
 use trabeculon_model::log::{Answer, RawSettings};
-use trabeculon_model::program::hex;
+use trabeculon_model::program::cut_hex;
 use trabeculon_model::random::Random;
 use trabeculon_model::tally::Tally;
 
-use crate::{library_read_log, random_bytes, Arguments, GUARD};
+use crate::{library_read_log, Arguments, GUARD};
 
 extern "C" {
     fn trabeculon_write_drill(
@@ -35,8 +35,6 @@ fn library_write_drill((t, j, l, solo): RawSettings, line: &[u16], out: &mut [u8
 const WRITER_NUMBERS: [u64; 4] = [0, 1, 8, 10];
 /// For so many random logs one random drill is compared.
 const LOGS_FOR_A_DRILL: u64 = 4;
-/// No more of a run than this is printed, in bytes.
-const SHOWN: usize = 4_000;
 
 pub fn compare_all(arguments: &Arguments) -> Result<(), String> {
     // Another run of numbers than the reader's.
@@ -66,7 +64,7 @@ fn compare(
 ) -> Result<Drill, String> {
     let start = GUARD + random.place(8);
     let end = start + case.room;
-    let before = random_bytes(random, end + GUARD);
+    let before = random.bytes(end + GUARD);
     let line = case.line.clone();
 
     let mut left = before.clone();
@@ -105,7 +103,7 @@ fn read_back(random: &mut Random, written: &Drill, line: &[u16], run: &[u8]) -> 
         return Ok(());
     }
     let (length, room) = (written.bytes as usize, 2 * line.len());
-    let mut out = random_bytes(random, room + GUARD);
+    let mut out = random.bytes(room + GUARD);
     let right: Vec<u8> = line.iter().flat_map(|word| word.to_be_bytes()).collect();
     let right = [&right, &out[room..]].concat();
     let answer = library_read_log(&run[..length], &mut out[..room]);
@@ -122,12 +120,4 @@ fn read_back(random: &mut Random, written: &Drill, line: &[u16], run: &[u8]) -> 
 fn words_hex(line: &[u16]) -> String {
     let bytes: Vec<u8> = line.iter().flat_map(|word| word.to_be_bytes()).collect();
     cut_hex(&bytes)
-}
-
-/// Hex of a run, or of its beginning if it is long.
-fn cut_hex(bytes: &[u8]) -> String {
-    if bytes.len() <= SHOWN {
-        return hex(bytes);
-    }
-    format!("{}... (the first {SHOWN} bytes)", hex(&bytes[..SHOWN]))
 }

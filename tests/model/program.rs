@@ -1,4 +1,4 @@
-//! Runs a program with bytes on its standard input.
+//! Runs a program with bytes on its standard input; bytes as text.
 
 use std::io::{Result, Write};
 use std::process::{Command, Output, Stdio};
@@ -19,4 +19,15 @@ pub fn run(program: &str, arguments: &[String], input: &[u8]) -> Result<Output> 
 
 pub fn hex(bytes: &[u8]) -> String {
     bytes.iter().map(|byte| format!("{byte:02x}")).collect()
+}
+
+/// No more of a long run than this is printed, in bytes.
+const SHOWN: usize = 4_000;
+
+/// Hex of a run, or of its beginning if it is long.
+pub fn cut_hex(bytes: &[u8]) -> String {
+    if bytes.len() <= SHOWN {
+        return hex(bytes);
+    }
+    format!("{}... (the first {SHOWN} of {} bytes)", hex(&bytes[..SHOWN]), bytes.len())
 }

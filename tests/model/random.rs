@@ -40,6 +40,16 @@ impl Random {
         self.next() as u8
     }
 
+    /// So many bytes.
+    pub fn bytes(&mut self, length: usize) -> Vec<u8> {
+        let mut bytes = Vec::with_capacity(length + 8);
+        while bytes.len() < length {
+            bytes.extend(self.next().to_le_bytes());
+        }
+        bytes.truncate(length);
+        bytes
+    }
+
     /// One of a few things.
     pub fn pick<T: Copy>(&mut self, things: &[T]) -> T {
         things[self.place(things.len())]

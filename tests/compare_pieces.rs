@@ -1,0 +1,444 @@
+//! Compares the proved library's reader of a log in pieces with the model of the
+//! papers: every number of every answer and of every reader handed back, the words,
+//! and every byte that must stay untouched.
+//!
+//!   compare_pieces [COUNT [SEED]] [--wrong-rule [NAME]]
+//!
+//! Single calls: a fixed set that tries every place of a reader's numbers, then COUNT
+//! random readers, well formed or not. Logs: a fixed set of whole ones and of ones
+//! damaged at every place, then a quarter of COUNT random ones. The whole ones and the
+//! short ones are cut at every place, and each is cut at random, into pieces of any
+//! length, with runs that are too short now and then. After every piece and at the end
+//! the library's reader of whole logs must say the same, until an 8; and calls after
+//! the end are tried. Exit 0: all equal. Exit 1: a mismatch, printed. Exit 2: wrong
+//! arguments.
+//!
+//! The library has no reader in pieces yet. Until it has, tests/run compiles this file
+//! and neither links nor runs it.
+
+use std::mem::size_of;
+use std::process::ExitCode;
+
+use trabeculon_model::arguments::{self, named};
+use trabeculon_model::generate::{base_logs, every_place, random_case, typed_log};
+use trabeculon_model::log::Answer;
+use trabeculon_model::model::SLIPS;
+use trabeculon_model::pieces::{
+    end_numbers, fresh_numbers, piece_numbers, FlatReader, PieceRead, Wrong, PIECE_SLIPS,
+};
+use trabeculon_model::program::cut_hex;
+use trabeculon_model::random::Random;
+use trabeculon_model::readers::{every_call, random_call, random_cut, Call};
+use trabeculon_model::tally::Tally;
+
+extern "C" {
+    fn trabeculon_read_log(log: *const u8, log_len: usize, out: *mut u8, out_len: usize) -> Answer;
+    fn trabeculon_reader_fresh() -> FlatReader;
+    fn trabeculon_reader_piece(
+        reader: FlatReader,
+        piece: *const u8,
+        piece_len: usize,
+        out: *mut u8,
+        out_len: usize,
+    ) -> PieceRead;
+    fn trabeculon_reader_end(reader: FlatReader) -> PieceRead;
+}
+
+const _: () = assert!(size_of::<FlatReader>() == 96 && size_of::<PieceRead>() == 120);
+
+/// The proved library, in safe clothes. The numbers of a reader may be anything.
+fn library_read_log(log: &[u8], out: &mut [u8]) -> Answer {
+    // Sound: both pairs are a slice's own pointer and length, and don't overlap.
+    unsafe { trabeculon_read_log(log.as_ptr(), log.len(), out.as_mut_ptr(), out.len()) }
+}
+
+fn library_fresh() -> FlatReader {
+    unsafe { trabeculon_reader_fresh() }
+}
+
+fn library_piece(reader: &FlatReader, piece: &[u8], out: &mut [u8]) -> PieceRead {
+    let (bytes, run) = (piece.as_ptr(), out.as_mut_ptr());
+    // Sound: both pairs are a slice's own pointer and length, and don't overlap.
+    unsafe { trabeculon_reader_piece(*reader, bytes, piece.len(), run, out.len()) }
+}
+
+fn library_end(reader: &FlatReader) -> PieceRead {
+    unsafe { trabeculon_reader_end(*reader) }
+}
+
+const DEFAULT_COUNT: u64 = 200_000;
+const DEFAULT_SEED: u64 = 20_010_401;
+/// The numbers of a piece and of an end, 6 and 9 as answers that are for good.
+const NUMBERS: [u64; 10] = [0, 1, 2, 3, 4, 5, 6, 7, 8, 9];
+/// Those of a log: not 2, since the reader is always one handed back, and not 9.
+const LOG_NUMBERS: [u64; 8] = [0, 1, 3, 4, 5, 6, 7, 8];
+/// How many bytes of the begun record the given readers had, so many or more.
+const BEGUN: [u64; 15] = [0, 1, 2, 3, 4, 5, 6, 7, 8, 9, 10, 11, 12, 13, 14];
+/// For so many random calls one random log is compared.
+const CALLS_FOR_A_LOG: u64 = 4;
+/// For so many random logs one that is longer than the program's buffer.
+const LOGS_FOR_A_LONG_ONE: u64 = 5_000;
+const LONG: usize = 70_000;
+/// Random logs up to this length are cut at every place.
+const SHORT: usize = 64;
+/// Of the damaged logs every fifth is cut at random, and some are at every place.
+const LOGS_FOR_A_CUT: u64 = 5;
+const LOGS_FOR_EVERY_CUT: u64 = 500;
+/// A log's beginnings are read whole after each piece up to this length.
+const OFTEN_READ: usize = 1_500;
+/// So many pieces of a log are given once its answer is for good.
+const PIECES_AFTER: usize = 3;
+/// Bytes before and after a run, to see a write outside it.
+const GUARD: usize = 32;
+
+type Arguments = arguments::Arguments<Wrong>;
+
+fn main() -> ExitCode {
+    let words: Vec<String> = std::env::args().skip(1).collect();
+    let Some(arguments) = read_arguments(&words) else {
+        let machine = SLIPS.map(|(name, _)| name).join(", ");
+        let pieces = PIECE_SLIPS.map(|(name, _)| name).join(", ");
+        eprintln!("usage: compare_pieces [COUNT [SEED]] [--wrong-rule [NAME]]");
+        eprintln!("names: {machine},\n{pieces}");
+        return ExitCode::from(2);
+    };
+    match compare_all(&arguments) {
+        Ok(()) => ExitCode::SUCCESS,
+        Err(message) => {
+            println!("{message}");
+            ExitCode::from(1)
+        }
+    }
+}
+
+fn read_arguments(words: &[String]) -> Option<Arguments> {
+    let usual = Arguments { count: DEFAULT_COUNT, seed: DEFAULT_SEED, wrong: Wrong::default() };
+    let first = Wrong { machine: None, pieces: Some(PIECE_SLIPS[0].1) };
+    Arguments::read(words, usual, first, wrong_named)
+}
+
+fn wrong_named(name: &str) -> Option<Wrong> {
+    let wrong = Wrong { machine: named(&SLIPS, name), pieces: named(&PIECE_SLIPS, name) };
+    (wrong.machine.is_some() || wrong.pieces.is_some()).then_some(wrong)
+}
+
+fn compare_all(arguments: &Arguments) -> Result<(), String> {
+    let (library, model) = (library_fresh(), fresh_numbers());
+    if library != model {
+        return Err(format!("fresh readers differ\nlibrary {library:?}\nmodel   {model:?}"));
+    }
+    // Single calls first: they show a wrong rule soonest.
+    compare_fixed_calls(arguments)?;
+    compare_random_calls(arguments)?;
+    compare_whole_logs(arguments)?;
+    compare_damaged_logs(arguments)?;
+    compare_random_logs(arguments)
+}
+
+// ---- One call ----
+
+/// All that was compared, and how often each answer came up.
+struct Compared {
+    random: Random,
+    wrong: Wrong,
+    pieces: Tally,
+    ends: Tally,
+    begun: Tally,
+}
+
+impl Compared {
+    fn new(seed: u64, wrong: Wrong) -> Compared {
+        let (pieces, ends, begun) = Default::default();
+        Compared { random: Random::new(seed), wrong, pieces, ends, begun }
+    }
+
+    /// Gives one piece both ways, with runs that hold the same bytes before. What the
+    /// library answered, and the words it wrote.
+    fn piece(&mut self, call: &Call) -> Result<(PieceRead, Vec<u8>), String> {
+        let start = GUARD + self.random.place(8);
+        let end = start + call.room;
+        let before = self.random.bytes(end + GUARD);
+        let piece = call.piece.clone();
+
+        let mut left = before.clone();
+        let library = library_piece(&call.reader, &piece, &mut left[start..end]);
+        let mut right = before.clone();
+        let model = piece_numbers(self.wrong, &call.reader, &call.piece, &mut right[start..end]);
+
+        let fault = if !same(&call.reader, &library, &model) {
+            "the answers differ"
+        } else if left[start..end] != right[start..end] {
+            "the runs differ"
+        } else if left != right {
+            "a byte outside the run was written"
+        } else if piece != call.piece {
+            "the piece was written"
+        } else {
+            self.pieces.add(model.answer.number.into());
+            self.begun.add(call.reader.count.min(14));
+            let words = library.answer.words.saturating_sub(call.reader.words);
+            return Ok((library, left[start..][..2 * words as usize].to_vec()));
+        };
+        Err(format!(
+            "{fault}\nreader  {:?}\npiece   {}\nrun     {} bytes, before {}\n\
+             library {library:?}\n        {}\nmodel   {model:?}\n        {}",
+            call.reader,
+            cut_hex(&piece),
+            call.room,
+            cut_hex(&before[start..end]),
+            cut_hex(&left[start..end]),
+            cut_hex(&right[start..end]),
+        ))
+    }
+
+    /// Says the end both ways.
+    fn end(&mut self, reader: &FlatReader) -> Result<PieceRead, String> {
+        let (library, model) = (library_end(reader), end_numbers(self.wrong, reader));
+        if !same(reader, &library, &model) {
+            let answers = format!("library {library:?}\nmodel   {model:?}");
+            return Err(format!("the answers differ\nend of {reader:?}\n{answers}"));
+        }
+        self.ends.add(model.answer.number.into());
+        Ok(library)
+    }
+
+    fn print(&self, what: &str) {
+        self.pieces.print(&format!("pieces {what}"));
+        println!("  bytes of a begun record before{}", self.begun.times());
+        self.ends.print(&format!("ends {what}"));
+    }
+
+    /// An error if a number never came up, or a place where a record was cut.
+    fn complete(&self, numbers: &[u64], count: u64) -> Result<(), String> {
+        let complete = || {
+            self.pieces.complete(numbers, count)?;
+            self.ends.complete(numbers, count)?;
+            self.begun.complete(&BEGUN, count)
+        };
+        complete().map_err(|what: String| format!("of pieces and ends, {what}"))
+    }
+}
+
+/// Every number is the same. Where the reader that was given had bits above the bytes
+/// that came, and is neither refused nor for good, and no record became whole, what
+/// stands there afterwards is not asked.
+fn same(given: &FlatReader, library: &PieceRead, model: &PieceRead) -> bool {
+    let kept = given.told == 1 || model.answer.number == 2;
+    let begun = model.reader.told == 0 && model.reader.offset == given.offset;
+    let free = !kept && begun && *given != given.clean();
+    library.answer == model.answer
+        && (library.reader == model.reader
+            || free && library.reader.clean() == model.reader.clean())
+}
+
+// ---- Single calls ----
+
+fn compare_fixed_calls(arguments: &Arguments) -> Result<(), String> {
+    let mut compared = Compared::new(arguments.seed, arguments.wrong);
+    every_call(|call| {
+        compared.end(&call.reader)?;
+        compared.piece(&call).map(drop)
+    })?;
+    compared.print("with every place of a reader tried");
+    Ok(())
+}
+
+fn compare_random_calls(arguments: &Arguments) -> Result<(), String> {
+    let mut random = Random::new(arguments.seed);
+    let mut compared = Compared::new(!arguments.seed, arguments.wrong);
+    for index in 0..arguments.count {
+        let call = random_call(&mut random);
+        let mut compare = || {
+            compared.end(&call.reader)?;
+            // And once more with the reader handed back.
+            let (read, _) = compared.piece(&call)?;
+            compared.piece(&Call { reader: read.reader, ..random_call(&mut random) })?;
+            compared.end(&read.reader)
+        };
+        compare().map_err(|what| format!("call {index} of seed {}: {what}", arguments.seed))?;
+    }
+    compared.print(&format!("of random readers of seed {}", arguments.seed));
+    compared.complete(&NUMBERS, arguments.count)
+}
+
+// ---- Logs ----
+
+/// How the runs of a log's pieces are: always enough, or too short now and then.
+#[derive(Clone, Copy, PartialEq)]
+enum Runs {
+    Enough,
+    TooShort,
+}
+
+fn compare_whole_logs(arguments: &Arguments) -> Result<(), String> {
+    let mut compared = Compared::new(arguments.seed, arguments.wrong);
+    // The first would be refused 7 by its header, but its record never ends.
+    let bytes = [&[9, 255, 255][..], &[9, 0, 0], &[1, 0, 5, 0, 100, 50, 50, 0, 2, 1, 0]];
+    for log in bytes.into_iter().map(<[u8]>::to_vec).chain(base_logs()) {
+        compared.every_cut(&log)?;
+        compared.log(&log, &vec![1; log.len()], Runs::Enough)?;
+    }
+    for log in base_logs().take(1) {
+        compared.every_two_cuts(&log)?;
+    }
+    compared.print("of whole logs");
+    Ok(())
+}
+
+fn compare_damaged_logs(arguments: &Arguments) -> Result<(), String> {
+    let mut compared = Compared::new(arguments.seed, arguments.wrong);
+    let mut index = 0;
+    every_place(|case| {
+        index += 1;
+        if index % LOGS_FOR_EVERY_CUT == 0 {
+            compared.every_cut(&case.log)?;
+        }
+        if index % LOGS_FOR_A_CUT != 0 {
+            return Ok(());
+        }
+        compared.random_cut(&case.log, Runs::Enough)
+    })?;
+    compared.print("of logs damaged at every place");
+    Ok(())
+}
+
+fn compare_random_logs(arguments: &Arguments) -> Result<(), String> {
+    let mut random = Random::new(arguments.seed);
+    let mut compared = Compared::new(!arguments.seed, arguments.wrong);
+    for index in 0..arguments.count / CALLS_FOR_A_LOG {
+        let log = match index % LOGS_FOR_A_LONG_ONE {
+            0 => typed_log(&mut random, (100, 50, 50, 1), LONG),
+            _ => random_case(&mut random).log,
+        };
+        let mut compare = || {
+            if log.len() <= SHORT {
+                compared.every_cut(&log)?;
+            }
+            let runs = if index % 2 == 0 { Runs::Enough } else { Runs::TooShort };
+            compared.random_cut(&log, runs)
+        };
+        compare().map_err(|what| format!("log {index} of seed {}: {what}", arguments.seed))?;
+    }
+    compared.print(&format!("of random logs of seed {}", arguments.seed));
+    compared.complete(&LOG_NUMBERS, arguments.count)
+}
+
+impl Compared {
+    /// A log in two pieces, cut at every place.
+    fn every_cut(&mut self, log: &[u8]) -> Result<(), String> {
+        (0..=log.len()).try_for_each(|cut| self.log(log, &[cut, log.len() - cut], Runs::Enough))
+    }
+
+    /// A log in three pieces, cut at every two places.
+    fn every_two_cuts(&mut self, log: &[u8]) -> Result<(), String> {
+        for cut in 0..=log.len() {
+            for second in 0..=log.len() - cut {
+                let pieces = [cut, second, log.len() - cut - second];
+                self.log(log, &pieces, Runs::Enough)?;
+            }
+        }
+        Ok(())
+    }
+
+    fn random_cut(&mut self, log: &[u8], runs: Runs) -> Result<(), String> {
+        let pieces = random_cut(&mut self.random, log.len());
+        self.log(log, &pieces, runs)
+    }
+
+    /// A log in pieces of these lengths, its end, and a few calls after that.
+    fn log(&mut self, log: &[u8], pieces: &[usize], runs: Runs) -> Result<(), String> {
+        let in_log = |what| format!("{what}\nlog     {}\npieces  {pieces:?}", cut_hex(log));
+        let mut reader = library_fresh();
+        let mut line = vec![];
+        let (mut came, mut after) = (0, 0);
+        for length in pieces {
+            if after > PIECES_AFTER {
+                break;
+            }
+            let piece = log[came..came + length].to_vec();
+            let room = self.room(&reader, &piece, runs);
+            let (read, words) = self.piece(&Call { reader, piece, room }).map_err(in_log)?;
+            came += length;
+            after += usize::from(reader.told == 1);
+            line.extend(words);
+            if came <= OFTEN_READ {
+                before_the_end(&log[..came], &read.answer, &line).map_err(in_log)?;
+            }
+            reader = read.reader;
+        }
+        let read = self.end(&reader).map_err(in_log)?;
+        at_the_end(log, &read.answer, &line).map_err(in_log)?;
+        self.after_the_end(&read).map_err(in_log)
+    }
+
+    /// The length of a piece's run, by how many words the model writes.
+    fn room(&mut self, reader: &FlatReader, piece: &[u8], runs: Runs) -> usize {
+        let most = 4 * (piece.len() / 13 + 1);
+        let random = &mut self.random;
+        if runs == Runs::Enough && random.once_in(2) {
+            return most + random.place(3);
+        }
+        let answer = piece_numbers(Wrong::default(), reader, piece, &mut vec![0; most]).answer;
+        let need = 2 * (answer.words - reader.words) as usize;
+        match random.below(4) {
+            0 if runs == Runs::TooShort => need.saturating_sub(random.pick(&[1, 2, 3])),
+            1 if runs == Runs::TooShort => random.place(need + 1),
+            _ => need + random.place(3),
+        }
+    }
+
+    /// The answer is for good, whatever comes.
+    fn after_the_end(&mut self, ended: &PieceRead) -> Result<(), String> {
+        let lengths = [0, 1, 13, 40];
+        let length = self.random.pick(&lengths);
+        let piece = self.random.bytes(length);
+        let room = self.random.place(20);
+        let (again, _) = self.piece(&Call { reader: ended.reader, piece, room })?;
+        let end = self.end(&again.reader)?;
+        match again == *ended && end == *ended {
+            true => Ok(()),
+            false => Err(format!("not for good\n{ended:?}\n{again:?}\n{end:?}")),
+        }
+    }
+}
+
+/// The library's own reader of whole logs, with room enough.
+fn whole(log: &[u8]) -> (Answer, Vec<u8>) {
+    let mut run = vec![0; 4 * (log.len() / 13 + 1)];
+    let answer = library_read_log(log, &mut run);
+    run.truncate(2 * answer.words as usize);
+    (answer, run)
+}
+
+/// What came so far, read whole, is said the same way; only that 6 is not said yet,
+/// and the offset is then the bytes so far.
+fn before_the_end(log: &[u8], answer: &Answer, line: &[u8]) -> Result<(), String> {
+    let (mut right, words) = whole(log);
+    if right.number == 6 {
+        right = Answer { number: 0, offset: log.len() as u64, ..right };
+    }
+    said_by_the_whole(answer, line, right, &words)
+}
+
+fn at_the_end(log: &[u8], answer: &Answer, line: &[u8]) -> Result<(), String> {
+    let (right, words) = whole(log);
+    said_by_the_whole(answer, line, right, &words)
+}
+
+/// After an 8 the line is only the beginning of the whole one.
+fn said_by_the_whole(
+    answer: &Answer,
+    line: &[u8],
+    right: Answer,
+    words: &[u8],
+) -> Result<(), String> {
+    let said = match answer.number {
+        8 => answer.offset <= right.offset && words.starts_with(line),
+        _ => *answer == right && words == line,
+    };
+    if said && line.len() as u64 == 2 * answer.words {
+        return Ok(());
+    }
+    let (line, words) = (cut_hex(line), cut_hex(words));
+    Err(format!("not as read whole\npieces {answer:?}\n{line}\nwhole  {right:?}\n{words}"))
+}
