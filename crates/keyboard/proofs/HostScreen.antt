@@ -2,8 +2,10 @@
 use Prim.Native.Nat.{ℕ, _≤_}
 use native.Mathlib.Omega.{arith}
 use mathlib.Core.List.{List, [], _∷_, _++_, append-assoc, append-nil, map, foldl}
+use mathlib.Core.Option.{Option, none, some}
 use mathlib.Core.Path.{_≡_, refl, sym, ap, _∙_}
 use lib.Dec.{eqb}
+use lib.IntN.{ℤ}
 use lib.ListN.{length, getD, take}
 use borrow.Author.Tests.{ne-eqb}
 use Rattle.rules.specs.States.{fresh}
@@ -11,6 +13,8 @@ use Rattle.rules.specs.ZeroDelay.{sign-unless-0, character, sign-of, signs, Sen
 use Rattle.rules.specs.GivenBack.{step}
 use Rattle.rules.specs.Sequences.{along, items-in, sendings-in, typed}
 use Rattle.rules.specs.StepFacts.{NoneIs0, Sendable, plainly, behind-backspace}
+use Rattle.rules.specs.Distance.{asking}
+use Rattle.rules.specs.declared.Stamp.{Stamp}
 use Rattle.rules.specs.declared.Thumb.the-variants.{Left, Right}
 use Rattle.rules.specs.declared.Machine.{Machine}
 use Rattle.rules.specs.declared.Item.{Item}
@@ -21,8 +25,11 @@ use Rattle.rules.proofs.Screen.{typed-append, typed-send, signs-append, run-sho
 use Rattle.rules.proofs.StepFacts.{step-sizes, step-sendable}
 use Rattle.preview.specs.Views.{packed-sendings}
 use Rattle.preview.proofs.Laws.{sends-no-backspace, sends-signs}
+use Rattle.flat.specs.Fields.{named}
+use Rattle.flat.specs.declared.Flat.{Flat}
 use Rattle.keyboard.specs.declared.StepAnswer.{StepAnswer}
-use Rattle.keyboard.specs.Keyboard.{no-machine, word-of, words-of, answer-numbers, answered-numbers}
+use Rattle.keyboard.specs.Keyboard.{no-machine, word-of, words-of, answer-numbers, answered-numbers, step-numbers}
+use Rattle.keyboard.specs.Keyboard.{told-numbers, distance-numbers}
 use Rattle.keyboard.specs.KeyboardFacts.{answers}
 use Rattle.keyboard.specs.HostScreen.{signs-sent, shows, grows, sendings-read, HostFacts}
 use Rattle.keyboard.proofs.HandedOn.{keyboard-facts}
@@ -90,9 +97,31 @@ grows-all line x (e ∷ es) =
     (ap (λ (l : List ℕ). l ++ signs (along items-in (step x e .machine) es)) (signs-back (step x e .items) (step-sizes x e .at-most-2-items))
     ∙ sym (signs-append (step x e .items) (along items-in (step x e .machine) es)))
 
+-- The number.
+
+number-back : (f : Flat) (x : Machine) (e : Event) → named f ≡ some x → step-numbers f e .number ≡ step x e .number
+unfolding step-numbers
+number-back f x e h = rw h
+
+told-number : (n : ℕ) (d : Option ℤ) → told-numbers n d .number ≡ n
+told-number n none = refl
+told-number n (some z) = refl
+
+asked-back : (f : Flat) (x : Machine) (now : Stamp) → named f ≡ some x → distance-numbers f now .number ≡ asking x now .number
+unfolding distance-numbers
+asked-back f x now h = rw h (told-number (asking x now .number) (asking x now .distance))
+
+no-machine-2 : (f : Flat) (e : Event) (now : Stamp) → named f ≡ none
+    → (step-numbers f e .number ≡ 2) × (distance-numbers f now .number ≡ 2)
+unfolding step-numbers distance-numbers
+no-machine-2 f e now h = (rw h, rw h)
+
 pub host-facts : HostFacts
 host-facts =
     record {
+      number-back = number-back;
+      asked-back = asked-back;
+      no-machine-2 = no-machine-2;
       sendings-back = sendings-back;
       words-back = λ x e. words-back (step x e .items) (step-sizes x e .at-most-2-items);
       line-is = λ {s} {first} {es} run. ap (foldl grows []) (keyboard-facts .runs run) ∙ grows-all [] (fresh s) es;

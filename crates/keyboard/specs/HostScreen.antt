@@ -2,6 +2,7 @@
 -- a step sends or commits is lost on the way. The proofs are in proofs/HostScreen.antt.
 use Prim.Native.Nat.{ℕ}
 use mathlib.Core.List.{List, [], _∷_, _++_, map, foldl}
+use mathlib.Core.Option.{none, some}
 use mathlib.Core.Path.{_≡_}
 use lib.Dec.{eqb}
 use lib.ListN.{take}
@@ -9,12 +10,16 @@ use Rattle.rules.specs.Choice.{if_then_else_}
 use Rattle.rules.specs.ZeroDelay.{sign-unless-0, shown, Sending, backspace, send}
 use Rattle.rules.specs.GivenBack.{step}
 use Rattle.rules.specs.Sequences.{without-last, state, line}
+use Rattle.rules.specs.Distance.{asking}
+use Rattle.rules.specs.declared.Stamp.{Stamp}
 use Rattle.rules.specs.declared.Settings.{Settings}
 use Rattle.rules.specs.declared.Machine.{Machine}
 use Rattle.rules.specs.declared.Event.{Event}
+use Rattle.flat.specs.Fields.{named}
+use Rattle.flat.specs.declared.Flat.{Flat}
 use Rattle.keyboard.specs.declared.OpenAnswer.{OpenAnswer}
 use Rattle.keyboard.specs.declared.StepAnswer.{StepAnswer}
-use Rattle.keyboard.specs.Keyboard.{word-of, answered-numbers}
+use Rattle.keyboard.specs.Keyboard.{word-of, answered-numbers, step-numbers, distance-numbers}
 use Rattle.keyboard.specs.KeyboardFacts.{KeyboardRun}
 
 -- those of sent_first, sent_second and sent_third that are not 0
@@ -49,6 +54,11 @@ abbrev pub words-read : StepAnswer → List ℕ
 words-read r = take (r .items) (r .first ∷ r .second ∷ [])
 
 pub record HostFacts : Type 0 where
+  -- Of numbers that name a machine: the number of an event, and of asking, is document 01's; all others are refused 2.
+  pub number-back : (f : Flat) (x : Machine) (e : Event) → named f ≡ some x → step-numbers f e .number ≡ step x e .number
+  pub asked-back : (f : Flat) (x : Machine) (now : Stamp) → named f ≡ some x → distance-numbers f now .number ≡ asking x now .number
+  pub no-machine-2 : (f : Flat) (e : Event) (now : Stamp) → named f ≡ none
+      → (step-numbers f e .number ≡ 2) × (distance-numbers f now .number ≡ 2)
   -- Of every machine and event: the numbers say all that is sent, and the words of all items.
   pub sendings-back : (x : Machine) (e : Event) → sendings-read (answered-numbers (step x e)) ≡ step x e .sendings
   pub words-back : (x : Machine) (e : Event) → words-read (answered-numbers (step x e)) ≡ map word-of (step x e .items)

@@ -18,7 +18,7 @@ use Rattle.rules.specs.declared.Thumb.{Thumb}
 use Rattle.rules.specs.declared.Thumb.the-variants.{Left, Right}
 use Rattle.rules.specs.declared.Settings.{Settings}
 use Rattle.rules.specs.declared.Resting.{Resting}
-use Rattle.rules.specs.declared.Resting.the-variants.{S1, S2, S3}
+use Rattle.rules.specs.declared.Resting.the-variants.{S1, S2, S3, S6}
 use Rattle.rules.specs.declared.Face.the-variants.{Plain, With}
 use Rattle.rules.specs.declared.Item.{Item}
 use Rattle.rules.specs.declared.Item.the-variants.{Character, Mark}
@@ -100,6 +100,9 @@ with-J-60 = settings-of 100 60 50 0
 abbrev pub with-J-70 : Settings
 with-J-70 = settings-of 100 70 50 0
 
+abbrev pub with-L-60 : Settings
+with-L-60 = settings-of 100 50 60 0
+
 abbrev pub slow : Settings
 slow = settings-of 1000 50 50 0
 
@@ -126,11 +129,15 @@ examples =
     (thumb Right 0 ∷ down 21 40 ∷ thumb Left 60 ∷ text (right-mark ∷ []) ∷ tick 80 ∷ text (right-mark ∷ え ∷ []) ∷ []) ∷
     example "P11" usual (thumb Right 0 ∷ down 21 1000 ∷ tick 1099 ∷ nothing ∷ tick 1100 ∷ text (が ∷ []) ∷ []) ∷ []
 
--- Two of "Where a programmer slips": the deadline that is due comes before the event; waits are rounded up.
+-- Two of "Where a programmer slips": the deadline that is due comes before the event; waits are rounded up. And which percentage
+-- an overlap is measured by: J where the character came first, L where the thumb did.
 abbrev pub slips : List Example
 slips =
     example "late first" usual (down 21 0 ∷ thumb Right 100 ∷ tick 200 ∷ text (か ∷ []) ∷ []) ∷
-    example "rounded up" with-J-70 (down 21 0 ∷ thumb Right 10 ∷ tick 33 ∷ nothing ∷ tick 34 ∷ text (が ∷ []) ∷ []) ∷ []
+    example "rounded up" with-J-70 (down 21 0 ∷ thumb Right 10 ∷ tick 33 ∷ nothing ∷ tick 34 ∷ text (が ∷ []) ∷ []) ∷
+    example "by J" with-J-60 (down 21 0 ∷ thumb Right 30 ∷ up 21 70 ∷ text (か ∷ []) ∷ rests (S3 Right (at 30)) ∷ []) ∷
+    example "by L" with-L-60
+    (thumb Right 0 ∷ down 21 30 ∷ thumb-up Right 70 ∷ nothing ∷ rests (S6 Right (at 0) (key 21) (at 30) (at 70)) ∷ []) ∷ []
 
 -- 4/12: with a large T the short-overlap time decides a plain chord. 399 ms are short, 400 are not.
 abbrev pub slow-hands : List Example
