@@ -84,9 +84,9 @@ typedef struct {
  *
  * Proved: the answer and the run afterwards (Reads, keylog/specs/Runs.antt,
  * over Reader.antt); when each number is given and what an accepted record
- * leaves (RecordRefusals, keylog/specs/RecordRefusals.antt); that the words are
- * the line of the log's accepted events, and that 2 never comes (LogSequence,
- * keylog/specs/LogSequence.antt).
+ * leaves (RecordRefusals, keylog/specs/RecordRefusals.antt); that the words,
+ * where there is room for them all, are the line of the log's accepted events,
+ * and that 2 never comes (LogSequence, keylog/specs/LogSequence.antt).
  */
 trabeculon_answer trabeculon_read_log(const uint8_t *log, size_t log_len,
                                       uint8_t *out, size_t out_len);
@@ -148,7 +148,8 @@ typedef struct {
  *
  * Proved: the answer and the run afterwards (Writes, writer/specs/Writes.antt,
  * over Drills.antt); the characters (PlaceFacts, lookup/specs/PlaceFacts.antt);
- * the bytes of each (place-size, writer/specs/Parts.antt); that it reads back
+ * the bytes of each (place-size, writer/specs/Parts.antt), and that 8 + 65 for
+ * each suffice (Room-suffices, writer/specs/Room.antt); that it reads back
  * (Round-trip, writer/specs/RoundTrip.antt).
  */
 trabeculon_drill trabeculon_write_drill(uint16_t t, uint8_t j, uint8_t l,
@@ -228,8 +229,9 @@ trabeculon_drill trabeculon_write_drill(uint16_t t, uint8_t j, uint8_t l,
  * It is 40 bytes with no padding, so two can be compared byte for byte.
  *
  * Proved: every machine has one form in numbers, which names it (LosesNothing,
- * flat/specs/LosesNothing.antt); events keep it well formed (StaysFormed,
- * rules/specs/StepFacts.antt). Tested: the 40 bytes (tests/c/live_keyboard.c).
+ * flat/specs/LosesNothing.antt); events keep it well formed (keeps-formed in
+ * KeyboardFacts, keyboard/specs/KeyboardFacts.antt). Tested: the 40 bytes
+ * (tests/c/live_keyboard.c).
  */
 typedef struct {
     uint64_t last;
@@ -312,13 +314,14 @@ typedef struct {
  * stamp is the keyboard's.
  *
  * If the machine's deadline is at or before the stamp, what is due is done
- * first, and then the event acts. Stepping through the events of a log that
- * trabeculon_read_log accepts commits the words that it writes.
+ * first, and then the event acts. Stepping through the events that
+ * trabeculon_read_log accepts of a log commits the words that it writes, given
+ * room for them all.
  *
  * Proved: step-numbers (keyboard/specs/Keyboard.antt) of step
  * (rules/specs/GivenBack.antt); when each number is given (Refusals,
- * rules/specs/Refusals.antt); that the numbers say all that is sent and
- * committed (sendings-back and words-back in HostFacts,
+ * rules/specs/Refusals.antt); that the numbers say that number and all that is
+ * sent and committed (number-back, sendings-back and words-back in HostFacts,
  * keyboard/specs/HostScreen.antt); at most 2 items and 4 sendings (StepSizes,
  * rules/specs/StepFacts.antt). Of the words of a log: words-are in LogSequence
  * (keylog/specs/LogSequence.antt) and line-is in HostFacts both speak of the
@@ -359,8 +362,8 @@ typedef struct {
  *
  * Proved: distance-numbers (keyboard/specs/Keyboard.antt) of asking
  * (rules/specs/Distance.antt, over deadline in States.antt); what a tick does,
- * and that asking is refused as a tick is (DistanceFacts and SameRefusals,
- * rules/specs/DistanceFacts.antt).
+ * and that asking is refused as a tick is (DistanceNumbers,
+ * keyboard/specs/DistanceNumbers.antt).
  */
 trabeculon_asked trabeculon_distance(trabeculon_machine machine, uint64_t stamp);
 
