@@ -22,7 +22,8 @@ use Rattle.rules.proofs.StepFacts.{step-sizes, step-sendable}
 use Rattle.preview.specs.Views.{packed-sendings}
 use Rattle.preview.proofs.Laws.{sends-no-backspace, sends-signs}
 use Rattle.keyboard.specs.declared.StepAnswer.{StepAnswer}
-use Rattle.keyboard.specs.Keyboard.{no-machine, word-of, words-of, answer-numbers, answered-numbers}
+use Rattle.flat.specs.Fields.{no-machine}
+use Rattle.keyboard.specs.Keyboard.{word-of, words-of, answer-numbers, answered-numbers}
 use Rattle.keyboard.specs.KeyboardFacts.{answers}
 use Rattle.keyboard.specs.HostScreen.{signs-sent, shows, grows, sendings-read, HostFacts}
 use Rattle.keyboard.proofs.HandedOn.{keyboard-facts}
