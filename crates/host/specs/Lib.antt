@@ -1,2 +1,5 @@
 pub mod Face
 pub mod Drills
+pub mod Readers
+pub mod ReadersBack
+pub mod ReaderViews
