@@ -3,3 +3,4 @@ pub mod Drills
 pub mod Readers
 pub mod ReadersBack
 pub mod ReaderViews
+pub mod InPieces
