@@ -18,7 +18,8 @@ use Rattle.rules.specs.declared.Machine.{Machine}
 use Rattle.rules.proofs.Choices.{by-test}
 use Rattle.flat.specs.declared.Flat.{Flat}
 use Rattle.flat.specs.Fields.{thumb-number, Rest, rest, flat, no-character, no-thumb, no-release, character, with-thumb}
-use Rattle.flat.specs.Fields.{as-S1, as-S2, as-S3, as-S4, as-S5, as-S6, resting-named, settings-named, around, named, unopened, no-machine, is-no-machine}
+use Rattle.flat.specs.Fields.{as-S1, as-S2, as-S3, as-S4, as-S5, as-S6, resting-named, settings-named, around, named}
+use Rattle.flat.specs.Fields.{unopened, no-machine, is-no-machine}
 use Rattle.flat.specs.LosesNothing.{LosesNothing}
 
 abbrev with-resting : Settings → Stamp → Resting → Machine

@@ -4,3 +4,4 @@ pub mod Readers
 pub mod ReadersBack
 pub mod ReaderViews
 pub mod InPieces
+pub mod InPiecesFacts
