@@ -8,7 +8,7 @@ use pieces::Fed;
 ghost use mathlib.Core.Path.{_≡_};
 ghost use Rattle.host.specs.Face.{told};
 ghost use Rattle.host.specs.Readers.{reader-numbers};
-ghost use Rattle.host.specs.InPieces.{fresh-numbers, accepted, refused-2, GivesEnd};
+ghost use Rattle.host.specs.InPieces.{fresh-numbers, accepted, refused-2, GivesPiece, GivesEnd};
 
 // The reader after a call, and what the call answers.
 #[repr(C)]
@@ -65,6 +65,21 @@ pub extern "C" fn trabeculon_reader_fresh() -> FlatReader
         tail: 0,
         told: 0,
         number: 0,
+    }
+}
+
+// A piece of a log read into a run of bytes.
+#[no_mangle]
+pub extern "C" fn trabeculon_reader_piece(
+    reader: FlatReader,
+    piece: &[u8],
+    out: &mut [u8],
+) -> PieceRead
+    ensures { λ r. ⌜ GivesPiece reader (now (piece .entry)) (now (out .entry)) (accepted reader) r (now (out .exit)) ⌝ }
+{
+    match reader_of(reader) {
+        NamedReader::None => refused(reader),
+        NamedReader::Some(before) => numbers(pieces::feed_packed(before, piece, out)),
     }
 }
 
