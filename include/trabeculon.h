@@ -1,9 +1,10 @@
 /*
  * Trabeculon: a proved key-timing engine for NICOLA thumb-shift keyboards. This
- * is its face for a C host: five functions over runs and numbers. One reads a
+ * is its face for a C host: eight functions over runs and numbers. One reads a
  * log and one writes the log of a line; three drive a live keyboard: one opens
- * a machine, one takes an event, one says how far away the next deadline is.
- * The first two are in libhost.a, the other three in libkeyboard.a.
+ * a machine, one takes an event, one says how far away the next deadline is;
+ * and three read a log that arrives in pieces. Those for logs are in libhost.a,
+ * those for a live keyboard in libkeyboard.a.
  *
  * Each function is proved equal to a definition, for every input, and to
  * return. Behind "Proved:" stand the definitions and statements that carry what
@@ -366,6 +367,169 @@ typedef struct {
  * keyboard/specs/DistanceNumbers.antt).
  */
 trabeculon_asked trabeculon_distance(trabeculon_machine machine, uint64_t stamp);
+
+/*
+ * A log that arrives in pieces, of any size, even of no bytes: what its host
+ * does.
+ *
+ *   - Once: trabeculon_reader_fresh.
+ *   - On each piece: trabeculon_reader_piece with the reader, the piece, and a
+ *     run of its own for the words of the records whose last byte it brings.
+ *     The reader of the answer takes the place of the old one, whatever the
+ *     number. The line grows by the words at the run's front, as many as the
+ *     total has grown by.
+ *   - When the log has ended: trabeculon_reader_end.
+ *
+ * However the log is cut, until an 8 or 9 the words joined, the totals, the
+ * number and the offset are those that trabeculon_read_log answers for the
+ * whole log, given a run with room enough (two words for every 13 bytes). Only
+ * 6 has to wait for the end: until then a record that is not whole is no
+ * refused one, number is 0 and offset is the bytes so far. Every other refusal
+ * is told with the piece that brings the refused record's last byte.
+ *
+ * Once a number other than 0 was told, or the end was said, that answer is for
+ * good: every further piece or end gets it again, and nothing is written.
+ *
+ * The host keeps the reader. Nothing is kept here between two calls, so any
+ * number of logs can be read side by side, each with its own reader; and the
+ * host may save a reader, byte for byte, and go on with it later, in another
+ * process too.
+ *
+ * Proved, of calls from a fresh reader on: the words, the answers, that they
+ * are those of the whole log, that a reader which a call handed back is not
+ * refused 2, and that the answer stays (InPiecesFacts,
+ * host/specs/InPiecesFacts.antt, over HoweverCut,
+ * keylog/specs/HoweverCut.antt).
+ */
+
+/*
+ * A reader between two calls, as numbers.
+ *
+ * machine  the machine after the last accepted record; before the settings
+ *          every number of it is 0
+ * offset   where the next record starts; once told is 1, the answer's offset
+ * words    how many words were written, in all pieces
+ * count    how many bytes of the record at offset came already
+ * header   of these, bytes 0 to 2 as one number, high byte first
+ * front    bytes 3 and 4 in the same way
+ * tail     bytes 5 to 12 in the same way. Bytes behind these are only counted,
+ *          since a record that has them is refused 7 whatever they are.
+ * told     1 once a record was refused or the end was said, else 0
+ * number   the number of that answer; 0 if told is 0
+ *
+ * A host keeps these numbers and hands them on. It may look into them, and it
+ * may save them and go on later. Any numbers may be handed over; those that are
+ * no reader are refused:
+ *
+ * They name a reader if the machine's numbers name a machine or are all 0, and
+ * told is 1, or told and number are 0. That reader is well formed if its
+ * machine is, if it has one; 13 * words <= 2 * offset; offset + count is at
+ * most 1,000,000,000,000; count is below the length that the record states,
+ * 3 plus 256 times byte 1 plus byte 2, a byte that did not come counting 0;
+ * and, if told is 1, number is 0, 1 or 3 to 9 and count is 0. Numbers that name
+ * no reader, or one that is not well formed, are refused 2. The fresh reader is
+ * well formed, and a call with a well-formed reader, however the host came by
+ * it, hands back a well-formed one; so numbers that were saved go on without a
+ * 2.
+ *
+ * Bits of header, front and tail above the bytes that came say nothing, and a
+ * call may leave any bits there. With count 4, say, these are the bits of
+ * header from 24 on, those of front from 8 on, and all of tail.
+ *
+ * It is 96 bytes with no padding.
+ *
+ * Proved: every reader has one form in numbers, which names it (ReadersBack,
+ * host/specs/ReadersBack.antt, over reader-numbers and reader-named,
+ * Readers.antt); which are well formed (formed, keylog/specs/Pieces.antt), and
+ * that calls keep them so (piece-goes-on and end-goes-on in InPiecesFacts).
+ * Tested: the 96 bytes (tests/c/read_pieces.c).
+ */
+typedef struct {
+    trabeculon_machine machine;
+    uint64_t offset;
+    uint64_t words;
+    uint64_t count;
+    uint64_t header;
+    uint64_t front;
+    uint64_t tail;
+    uint32_t told;
+    uint32_t number;
+} trabeculon_reader;
+
+/*
+ * What a call of the reader in pieces answers.
+ *
+ * reader          the reader after the call; beside 2 the one that was given,
+ *                 byte for byte, even if it is none
+ * answer.number   0  no record was refused; from trabeculon_reader_end, nor is
+ *                    one cut
+ *                 2  the numbers name no reader, or one that is not well
+ *                    formed
+ *                 6  the log is empty, or a record's header or body cut: only
+ *                    once the end was said
+ *                 8  the record's words don't all fit into the run of the piece
+ *                    that brings its last byte
+ *                 9  the piece takes the log past 1,000,000,000,000 bytes; no
+ *                    byte of it is read
+ *                 1, 3, 4, 5 and 7 as trabeculon_read_log gives them. In a call
+ *                 2 is tried first, then whether an answer is for good, then 9,
+ *                 then the records as there.
+ * answer.waiting  how many characters wait after the last accepted record, 0 or
+ *                 1; beside 2: 0
+ * answer.words    how many words were written, in all pieces; beside 2: 0
+ * answer.offset   where the refused record starts, in bytes from the log's
+ *                 start; beside 0 the bytes so far, beside 9
+ *                 1,000,000,000,000, beside 2: 0
+ *
+ * It is 120 bytes with no padding.
+ */
+typedef struct {
+    trabeculon_reader reader;
+    trabeculon_answer answer;
+} trabeculon_piece_read;
+
+/*
+ * The reader before the first piece. Every number of it is 0.
+ *
+ * Proved: fresh-numbers (host/specs/InPieces.antt), and that they name the
+ * fresh reader (fresh in InPiecesFacts).
+ */
+trabeculon_reader trabeculon_reader_fresh(void);
+
+/*
+ * Reads a piece of a log, in the form that trabeculon_read_log reads, and
+ * writes the words of the records whose last byte it brings into a lent run of
+ * bytes, two bytes a word, high byte first. The run has room for out_len / 2
+ * words.
+ *
+ * Afterwards, whatever the number:
+ *   - the first bytes of out hold those words, in order: answer.words less the
+ *     words of the reader that was given (beside 2 there are none);
+ *   - every other byte of out holds what it held before, an odd last byte
+ *     among them. A record refused 8 writes none of its words;
+ *   - the piece is unchanged.
+ *
+ * The caller lends piece_len readable bytes at piece and out_len writable bytes
+ * at out, which don't overlap. Either length may be 0; the pointer is not null
+ * even then. No alignment is asked.
+ *
+ * Proved: the answer, the reader and the run afterwards (GivesPiece,
+ * host/specs/InPieces.antt, over piece, keylog/specs/Pieces.antt); 9, and what
+ * the totals count (PieceFacts, keylog/specs/PieceFacts.antt).
+ */
+trabeculon_piece_read trabeculon_reader_piece(trabeculon_reader reader,
+                                              const uint8_t *piece,
+                                              size_t piece_len, uint8_t *out,
+                                              size_t out_len);
+
+/*
+ * Says that the log has ended. The end of a log is no key event, so what waits
+ * is not committed, and there are no words to write.
+ *
+ * Proved: the answer and the reader (GivesEnd, host/specs/InPieces.antt, over
+ * end, keylog/specs/Pieces.antt).
+ */
+trabeculon_piece_read trabeculon_reader_end(trabeculon_reader reader);
 
 #ifdef __cplusplus
 }

@@ -1,7 +1,7 @@
 -- Numbers lose nothing of a machine, and a machine has one form in numbers only: by cases on what rests, and by the tests that
 -- name it.
 use Prim.Native.Nat.{ℕ}
-use mathlib.Core.Bool.{true, _&&_, and-eq-true-iff}
+use mathlib.Core.Bool.{true, false, _&&_, and-eq-true-iff}
 use mathlib.Core.Option.{Option, none, some}
 use mathlib.Core.Path.{_≡_, refl}
 use lib.Dec.{eqb}
@@ -19,6 +19,7 @@ use Rattle.rules.proofs.Choices.{by-test}
 use Rattle.flat.specs.declared.Flat.{Flat}
 use Rattle.flat.specs.Fields.{thumb-number, Rest, rest, flat, no-character, no-thumb, no-release, character, with-thumb}
 use Rattle.flat.specs.Fields.{as-S1, as-S2, as-S3, as-S4, as-S5, as-S6, resting-named, settings-named, around, named}
+use Rattle.flat.specs.Fields.{unopened, no-machine, is-no-machine}
 use Rattle.flat.specs.LosesNothing.{LosesNothing}
 
 abbrev with-resting : Settings → Stamp → Resting → Machine
@@ -135,10 +136,76 @@ module _ (f : Flat) (x : Machine) where
       (λ _. by-test One (eqb (f .state) 5) (λ e. in-5 (eqb-true (f .state) 5 e))
       (λ _. by-test One (eqb (f .state) 6) (λ e. in-6 (eqb-true (f .state) 6 e)) (λ _. absent))))))
 
+-- The numbers that `unopened` tests.
+unopened-0 : (f : Flat) → unopened f ≡ true
+    → ((((((f .state ≡ 0) × (f .last ≡ 0)) × (f .t ≡ 0)) × (f .j ≡ 0)) × (f .l ≡ 0)) × (f .solo ≡ 0))
+unfolding unopened
+unopened-0 f h =
+    let a = and-eq-true-iff (eqb (f .state) 0 && eqb (f .last) 0 && eqb (f .t) 0 && eqb (f .j) 0 && eqb (f .l) 0) (eqb (f .solo) 0) .0 h in
+    let b = and-eq-true-iff (eqb (f .state) 0 && eqb (f .last) 0 && eqb (f .t) 0 && eqb (f .j) 0) (eqb (f .l) 0) .0 (a .0) in
+    let c = and-eq-true-iff (eqb (f .state) 0 && eqb (f .last) 0 && eqb (f .t) 0) (eqb (f .j) 0) .0 (b .0) in
+    let d = and-eq-true-iff (eqb (f .state) 0 && eqb (f .last) 0) (eqb (f .t) 0) .0 (c .0) in (
+      ((((both-0 (f .state) (f .last) (d .0)), eqb-true (f .t) 0 (d .1)), eqb-true (f .j) 0 (c .1)), eqb-true (f .l) 0 (b .1)),
+      eqb-true (f .solo) 0 (a .1),
+    )
+
+-- f, number by number
+abbrev fields : Flat → Flat
+fields f =
+    record {
+      last = f .last;
+      m = f .m;
+      o = f .o;
+      r = f .r;
+      t = f .t;
+      j = f .j;
+      l = f .l;
+      solo = f .solo;
+      state = f .state;
+      key = f .key;
+      thumb = f .thumb;
+    }
+
+zeros : (f : Flat) → is-no-machine f ≡ true → f ≡ no-machine
+unfolding is-no-machine
+zeros f h =
+    let uct-r = and-eq-true-iff (unopened f && no-character f && no-thumb f) (no-release f) .0 h in
+    let uc-t = and-eq-true-iff (unopened f && no-character f) (no-thumb f) .0 (uct-r .0) in
+    let u-c = and-eq-true-iff (unopened f) (no-character f) .0 (uc-t .0) in
+    let u = unopened-0 f (u-c .0) in
+    let c = character-0 f (u-c .1) in
+    let t = thumb-0 f (uc-t .1) in
+    let same : fields f ≡ no-machine =
+    rw (u .0 .0 .0 .0 .0, u .0 .0 .0 .0 .1, u .0 .0 .0 .1, u .0 .0 .1, u .0 .1, u .1, c .0, c .1, t .0, t .1, release-0 f (uct-r .1))
+    in
+    same
+
+-- a state of 1 to 6 is not 0
+not-zeros : (s : Settings) (last : Stamp) (x : Resting) → is-no-machine (flat (with-resting s last x)) ≡ false
+unfolding flat is-no-machine unopened
+not-zeros s last S1 = refl
+not-zeros s last (S2 M m) = refl
+not-zeros s last (S3 O o) = refl
+not-zeros s last (S4 M m O o) = refl
+not-zeros s last (S5 O o M m) = refl
+not-zeros s last (S6 O o M m r) = refl
+
+zeros-test : is-no-machine no-machine ≡ true
+unfolding is-no-machine unopened no-character no-thumb no-release
+zeros-test = refl
+
+none-named : named no-machine ≡ none
+unfolding named resting-named
+none-named = refl
+
 pub loses-nothing : LosesNothing
 unfolding named
 loses-nothing =
     record {
       back = λ x. there-and-back (x .settings) (x .last) (x .resting);
       one-form = λ f x h. in-any f x h;
+      none-named = none-named;
+      zeros = zeros;
+      zeros-test = zeros-test;
+      not-zeros = λ x. not-zeros (x .settings) (x .last) (x .resting);
     }

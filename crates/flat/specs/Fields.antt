@@ -122,3 +122,21 @@ around f (some x) = some (record { settings = settings-named f; resting = x; las
 -- the machine that numbers name, or none
 unfoldable pub named : Flat → Option Machine
 named f = around f (resting-named f)
+
+-- No machine: every number is 0.
+
+-- numbers that name no machine: there is no state 0
+abbrev pub no-machine : Flat
+no-machine = record { last = 0; m = 0; o = 0; r = 0; t = 0; j = 0; l = 0; solo = 0; state = 0; key = 0; thumb = 0 }
+
+abbrev pub numbers-of : Option Machine → Flat
+numbers-of none = no-machine
+numbers-of (some x) = flat x
+
+-- no state, no settings and no stamp
+unfoldable pub unopened : Flat → Bool
+unopened f =
+    eqb (f .state) 0 && eqb (f .last) 0 && eqb (f .t) 0 && eqb (f .j) 0 && eqb (f .l) 0 && eqb (f .solo) 0
+
+unfoldable pub is-no-machine : Flat → Bool
+is-no-machine f = unopened f && no-character f && no-thumb f && no-release f

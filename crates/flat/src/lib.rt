@@ -9,7 +9,7 @@ ghost use mathlib.Core.Path.{_≡_};
 ghost use mathlib.Core.Option.{none, some};
 ghost use lib.Dec.{eqb};
 ghost use Rattle.rules.specs.Choice.{if_then_else_};
-ghost use Rattle.flat.specs.Fields.{thumb-number, joined, flat, no-character, no-thumb, no-release};
+ghost use Rattle.flat.specs.Fields.{thumb-number, joined, flat, no-character, no-thumb, no-release, unopened, no-machine, is-no-machine};
 ghost use Rattle.flat.specs.Fields.{as-S1, as-S2, as-S3, as-S4, as-S5, as-S6, resting-named, named};
 ghost use Rattle.flat.specs.Views.{found-as, named-as};
 
@@ -241,4 +241,55 @@ pub fn machine_of(numbers: Flat) -> Named
             last: Stamp(numbers.last),
         }),
     }
+}
+
+// Numbers that name no machine: there is no state 0.
+pub fn no_machine() -> Flat
+    ensures { λ r. ⌜ r ≡ no-machine ⌝ }
+{
+    Flat {
+        last: 0,
+        m: 0,
+        o: 0,
+        r: 0,
+        t: 0,
+        j: 0,
+        l: 0,
+        solo: 0,
+        state: 0,
+        key: 0,
+        thumb: 0,
+    }
+}
+
+// No state, no settings and no stamp.
+fn unopened(numbers: Flat) -> bool
+    ensures { λ r. ⌜ r ≡ unopened numbers ⌝ }
+{
+    if numbers.state != 0 {
+        return false;
+    }
+    if numbers.last != 0 {
+        return false;
+    }
+    if numbers.t != 0 {
+        return false;
+    }
+    if numbers.j != 0 {
+        return false;
+    }
+    if numbers.l != 0 {
+        return false;
+    }
+    numbers.solo == 0
+}
+
+// Whether every number is 0.
+pub fn is_no_machine(numbers: Flat) -> bool
+    ensures { λ r. ⌜ r ≡ is-no-machine numbers ⌝ }
+{
+    if unopened(numbers) && no_character(numbers) && no_thumb(numbers) {
+        return no_release(numbers);
+    }
+    false
 }

@@ -1,1 +1,4 @@
 pub mod Packing
+pub mod ReadersBack
+pub mod InPieces
+pub mod InPiecesFacts

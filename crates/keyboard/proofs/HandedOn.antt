@@ -13,21 +13,16 @@ use Rattle.rules.specs.declared.Machine.{Machine}
 use Rattle.rules.specs.declared.Event.{Event}
 use Rattle.rules.proofs.Choices.{both-ways}
 use Rattle.rules.proofs.Formed.{stays-formed}
-use Rattle.flat.specs.Fields.{flat, resting-named, named}
+use Rattle.flat.specs.Fields.{flat, named, numbers-of}
 use Rattle.flat.specs.declared.Flat.{Flat}
 use Rattle.flat.proofs.RoundTrip.{loses-nothing}
-use Rattle.keyboard.specs.Keyboard.{event-of, no-machine, numbers-of, answered-numbers, refused-numbers, step-named, step-numbers}
+use Rattle.keyboard.specs.Keyboard.{event-of, answered-numbers, refused-numbers, step-named, step-numbers}
 use Rattle.keyboard.specs.declared.OpenAnswer.{OpenAnswer}
 use Rattle.keyboard.specs.declared.StepAnswer.{StepAnswer}
 use Rattle.keyboard.specs.KeyboardFacts.{KeyboardCalls, no-more, call, KeyboardRun, last-numbers, answers, formed-named, formed-numbers, KeyboardFacts}
 
--- there is no state 0
-names-none : named no-machine ≡ none
-unfolding named resting-named
-names-none = refl
-
 numbers-name : (x : Option Machine) → named (numbers-of x) ≡ x
-numbers-name none = names-none
+numbers-name none = loses-nothing .none-named
 numbers-name (some x) = loses-nothing .back x
 
 steps-on : (f : Flat) (x : Machine) (e : Event) → named f ≡ some x → named (step-numbers f e .machine) ≡ some (step x e .machine)

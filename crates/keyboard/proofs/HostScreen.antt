@@ -25,10 +25,10 @@ use Rattle.rules.proofs.Screen.{typed-append, typed-send, signs-append, run-sho
 use Rattle.rules.proofs.StepFacts.{step-sizes, step-sendable}
 use Rattle.preview.specs.Views.{packed-sendings}
 use Rattle.preview.proofs.Laws.{sends-no-backspace, sends-signs}
-use Rattle.flat.specs.Fields.{named}
+use Rattle.flat.specs.Fields.{no-machine, named}
 use Rattle.flat.specs.declared.Flat.{Flat}
 use Rattle.keyboard.specs.declared.StepAnswer.{StepAnswer}
-use Rattle.keyboard.specs.Keyboard.{no-machine, word-of, words-of, answer-numbers, answered-numbers, step-numbers}
+use Rattle.keyboard.specs.Keyboard.{word-of, words-of, answer-numbers, answered-numbers, step-numbers}
 use Rattle.keyboard.specs.Keyboard.{told-numbers, distance-numbers}
 use Rattle.keyboard.specs.KeyboardFacts.{answers}
 use Rattle.keyboard.specs.HostScreen.{signs-sent, shows, grows, sendings-read, HostFacts}

@@ -18,7 +18,7 @@ use Rattle.rules.specs.declared.Item.the-variants.{Character, Mark}
 use Rattle.rules.specs.declared.Event.{Event}
 use Rattle.preview.specs.Views.{packed-sendings}
 use Rattle.preview.specs.declared.Sendings.{Sendings}
-use Rattle.flat.specs.Fields.{flat, named}
+use Rattle.flat.specs.Fields.{flat, named, numbers-of}
 use Rattle.flat.specs.declared.Flat.{Flat}
 use Rattle.keyboard.specs.declared.OpenAnswer.{OpenAnswer}
 use Rattle.keyboard.specs.declared.StepAnswer.{StepAnswer}
@@ -27,14 +27,7 @@ use Rattle.keyboard.specs.declared.Commits.{Commits}
 
 -- Opening.
 
--- numbers that name no machine: there is no state 0
-abbrev pub no-machine : Flat
-no-machine = record { last = 0; m = 0; o = 0; r = 0; t = 0; j = 0; l = 0; solo = 0; state = 0; key = 0; thumb = 0 }
-
-abbrev pub numbers-of : Option Machine → Flat
-numbers-of none = no-machine
-numbers-of (some x) = flat x
-
+-- beside a refusal, zeros
 abbrev pub open-numbers : Opening → OpenAnswer
 open-numbers o = record { machine = numbers-of (o .machine); number = o .number }
 

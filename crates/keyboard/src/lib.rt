@@ -15,7 +15,7 @@ ghost use Rattle.rules.specs.States.{at, opening};
 ghost use Rattle.preview.specs.Views.{listed};
 ghost use Rattle.deadlines.specs.Views.{asked};
 ghost use Rattle.rules.specs.Numbers.{settings-of};
-ghost use Rattle.keyboard.specs.Keyboard.{event-of, no-machine, open-numbers, words-of, answer-numbers, refused-numbers, step-numbers, asked-numbers, distance-numbers};
+ghost use Rattle.keyboard.specs.Keyboard.{event-of, open-numbers, words-of, answer-numbers, refused-numbers, step-numbers, asked-numbers, distance-numbers};
 
 // A fresh machine, or refusal 1 and numbers that name no machine.
 #[repr(C)]
@@ -52,24 +52,6 @@ struct Commits {
     items: u32,
     first: u16,
     second: u16,
-}
-
-fn no_machine() -> Flat
-    ensures { λ r. ⌜ r ≡ no-machine ⌝ }
-{
-    Flat {
-        last: 0,
-        m: 0,
-        o: 0,
-        r: 0,
-        t: 0,
-        j: 0,
-        l: 0,
-        solo: 0,
-        state: 0,
-        key: 0,
-        thumb: 0,
-    }
 }
 
 fn committed(items: Items) -> Commits
@@ -163,7 +145,7 @@ pub extern "C" fn trabeculon_open(t: u16, j: u8, l: u8, solo: u8) -> OpenAnswer
     };
     match Machine::open(settings) {
         Opened::OutOfRange => OpenAnswer {
-            machine: no_machine(),
+            machine: flat::no_machine(),
             number: 1,
         },
         Opened::Ready(machine) => OpenAnswer {
