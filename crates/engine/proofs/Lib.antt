@@ -1,2 +1,3 @@
 mod Laws
+pub mod FormNotAsked
 pub mod Calls

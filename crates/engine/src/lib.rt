@@ -30,13 +30,13 @@ ghost use mathlib.Core.List.{[]};
 ghost use mathlib.Core.Option.{none, some};
 ghost use lib.Dec.{eqb};
 ghost use Rattle.rules.specs.Choice.{if_then_else_};
-ghost use Rattle.rules.specs.States.{is-key, deadline, well-formed};
+ghost use Rattle.rules.specs.States.{is-key, well-formed};
 ghost use Rattle.rules.specs.OneEvent.{one-event};
 ghost use Rattle.rules.specs.GivenBack.{input, judge-stamp, judge, refusal, acceptance, step};
 ghost use Rattle.preview.specs.Views.{Sends};
 ghost use Rattle.effects.specs.Views.{done};
-ghost use Rattle.deadlines.specs.Capped.{deadline-at-most};
 ghost use Rattle.engine.specs.Views.{allowed, judged, Changes, Gives, taken, apart-from-sent};
+ghost use Rattle.engine.specs.FormNotAsked.{judge-event, one-event-at-most, take-formed};
 
 // What an event gives back: the number, the items committed, what is sent, and the machine.
 pub struct Stepped {
@@ -137,13 +137,10 @@ fn judge_stamp(last: Stamp, now: Stamp, input: Input) -> Verdict
     Verdict::Accepted(input)
 }
 
-// The checks of an event, in document 01's order.
-fn judge(machine: Machine, event: Event) -> Verdict
-    ensures { λ r. ⌜ judged r ≡ judge machine event ⌝ }
+// The checks of an event itself, in document 01's order.
+fn judge_event(machine: Machine, event: Event) -> Verdict
+    ensures { λ r. ⌜ judged r ≡ judge-event machine event ⌝ }
 {
-    if !well_formed(machine) {
-        return Verdict::Refused(2);
-    }
     let last = machine.last;
     let key = event.key;
     let now = event.stamp;
@@ -153,10 +150,19 @@ fn judge(machine: Machine, event: Event) -> Verdict
     }
 }
 
+// All checks: whether the machine is well formed comes first.
+fn judge(machine: Machine, event: Event) -> Verdict
+    ensures { λ r. ⌜ judged r ≡ judge machine event ⌝ }
+{
+    if !well_formed(machine) {
+        return Verdict::Refused(2);
+    }
+    judge_event(machine, event)
+}
+
 // First what is late, then the event acts. What is late leaves S1, which commits nothing, so its items are all.
 fn one_event(s: Settings, now: Stamp, resting: Resting, input: Input) -> Effect
-    requires { ⌜ deadline-at-most s resting ≡ deadline s resting ⌝ }
-    ensures { λ r. ⌜ done r ≡ one-event s now resting input ⌝ }
+    ensures { λ r. ⌜ done r ≡ one-event-at-most s now resting input ⌝ }
 {
     if is_due(s, now, resting) {
         let first = late(s, resting);
@@ -173,8 +179,7 @@ fn one_event(s: Settings, now: Stamp, resting: Resting, input: Input) -> Effect
 
 // What an accepted event commits, and the machine after it.
 fn carry_out(machine: Machine, now: Stamp, input: Input) -> Change
-    requires { ⌜ well-formed machine ≡ true ⌝ }
-    ensures { λ r. ⌜ Changes r machine now (one-event (machine .settings) now (machine .resting) input) ⌝ }
+    ensures { λ r. ⌜ Changes r machine now (one-event-at-most (machine .settings) now (machine .resting) input) ⌝ }
 {
     let s = machine.settings;
     let resting = machine.resting;
@@ -245,12 +250,12 @@ pub fn step(machine: Machine, event: Event) -> Stepped
     }
 }
 
-// The same apart from what is sent, for a caller that shows nothing.
-pub fn take(machine: Machine, event: Event) -> Taken
-    ensures { λ r. ⌜ taken r ≡ apart-from-sent (step machine event) ⌝ }
+// An event apart from what is sent, for a caller who knows that the machine is well formed: it is not asked again.
+pub fn take_formed(machine: Machine, event: Event) -> Taken
+    ensures { λ r. ⌜ taken r ≡ take-formed machine event ⌝ }
 {
     let now = event.stamp;
-    match judge(machine, event) {
+    match judge_event(machine, event) {
         Verdict::Refused(number) => Taken::Refused(number),
         Verdict::Accepted(meant) => {
             let done = carry_out(machine, now, meant);
@@ -259,4 +264,14 @@ pub fn take(machine: Machine, event: Event) -> Taken
             Taken::Accepted(items, after)
         }
     }
+}
+
+// One event at any machine apart from what is sent, for a caller that shows nothing.
+pub fn take(machine: Machine, event: Event) -> Taken
+    ensures { λ r. ⌜ taken r ≡ apart-from-sent (step machine event) ⌝ }
+{
+    if !well_formed(machine) {
+        return Taken::Refused(2);
+    }
+    take_formed(machine, event)
 }
