@@ -1,5 +1,6 @@
 -- Laws of a step that its functions lean on.
-use mathlib.Core.Path.{_≡_}
+use borrow.Author.Tests.{eq-eqb}
+use mathlib.Core.Path.{_≡_, sym}
 use mathlib.Core.Bool.{true, false}
 use mathlib.Core.List.{append-nil}
 use Prim.Native.Nat.{ℕ}
@@ -16,6 +17,7 @@ use Rattle.rules.specs.declared.Input.{Input}
 use Rattle.rules.proofs.Choices.{by-test}
 use Rattle.rules.proofs.StepFacts.{S1-commits-nothing, late-leaves-S1}
 use Rattle.deadlines.specs.Capped.{deadline-at-most}
+use Rattle.engine.specs.Views.{judged}
 use Rattle.engine.specs.FormNotAsked.{one-event-at-most}
 
 -- an event at a state that is due: the items are the late ones
@@ -32,10 +34,11 @@ not-late s now x i e = rw e
 refused-not-accepted : (n : ℕ) (i : Input) → refused n ≡ accepted i → ⊥
 refused-not-accepted n i e = let z : _≡_ {A = ℕ} 0 1 = cc in omega arith
 
--- only a machine that is well formed accepts
-pub accepts-well-formed : (m : Machine) (e : Event) (i : Input) → judge m e ≡ accepted i → well-formed m ≡ true
+-- only a machine that is well formed accepts: where the number is 0
+pub accepts-well-formed : (m : Machine) (e : Event) (i : Input) (n : ℕ) → judged n i ≡ judge m e → n ≡ 0 → well-formed m ≡ true
 unfolding judge
-accepts-well-formed m e i =
-    by-test (λ (v : Verdict). v ≡ accepted i → well-formed m ≡ true) (well-formed m)
+accepts-well-formed m e i n h z =
+    by-test (λ (v : Verdict). accepted i ≡ v → well-formed m ≡ true) (well-formed m)
     (λ w _. w)
-    (λ _ h. absurd (refused-not-accepted 2 i h))
+    (λ _ f. absurd (refused-not-accepted 2 i (sym f)))
+    (rw (eq-eqb n 0 z) at h)

@@ -94,6 +94,12 @@ pub fn same_key(a: Key, b: Key) -> bool
     a.0 == b.0
 }
 
+pub fn lower_key(a: Key, b: Key) -> bool
+    ensures { λ r. ⌜ r ≡ ltb (a .0) (b .0) ⌝ }
+{
+    a.0 < b.0
+}
+
 pub fn is_key(k: Key) -> bool
     ensures { λ r. ⌜ r ≡ is-key k ⌝ }
 {

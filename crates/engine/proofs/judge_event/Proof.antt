@@ -1,6 +1,6 @@
 -- `engine::judge_event` meets its contract.
-use borrow.Author.Needs.{needs}
 use Rattle.engine.specs.FormNotAsked.{judge-event}
+use Rattle.engine.proofs.Allowed.{is-allowed, not-allowed}
 use Rattle.engine.proofs.judge_event.Statement.{statement}
 use Rattle.engine.proofs.judge_event.Tie as tie
 
@@ -10,10 +10,12 @@ judge-event-spec =
     tie.close
     (tie.spec
     (λ c κs. tt)
-    (λ c. search needs)
-    (λ c. search needs)
     (λ c κs. tt)
-    (λ c. rw (← c .before .before .meaning-of .ensures, c .enum-told .given .1))
+    (λ c κs. tt)
     (λ c.
-    let at-input = c .before .before in
-    rw (← at-input .before .before .meaning-of .ensures, at-input .input .given .1, ← c .judge-stamp .ensures)))
+    let at-if = c .before in
+    let at-keys = at-if .before .before in
+    rw (is-allowed _ _ (at-keys .keys-of .ensures) (at-if .before .lower-key .ensures) (at-if .if1 .taken)) (c .judge-stamp .ensures _))
+    (λ c.
+    let at-keys = c .before .before in
+    rw (not-allowed _ _ (at-keys .keys-of .ensures) (c .before .lower-key .ensures) (c .if1 .left))))
