@@ -94,10 +94,10 @@ pub fn same_key(a: Key, b: Key) -> bool
     a.0 == b.0
 }
 
-pub fn lower_key(a: Key, b: Key) -> bool
-    ensures { λ r. ⌜ r ≡ ltb (a .0) (b .0) ⌝ }
+pub fn lower_key(k: Key, most: Key) -> bool
+    ensures { λ r. ⌜ r ≡ ltb (k .0) (most .0) ⌝ }
 {
-    a.0 < b.0
+    k.0 < most.0
 }
 
 pub fn is_key(k: Key) -> bool
