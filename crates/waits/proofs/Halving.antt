@@ -6,6 +6,7 @@ use native.Mathlib.Decide.{decLe}
 use native.Mathlib.Omega.{arith}
 use lib.Pow.{pow-pos, pow-mono, pow-add, shl-exact}
 use lib.Count.{leadingZeros, leading-top}
+use Rattle.waits.specs.Turns.{Above}
 
 -- Of a total, q times a divisor moved up by k bits are taken, and the rest is smaller.
 pub record Left (total d step k q rest : ℕ) : Type 0 where
@@ -63,28 +64,26 @@ ends total d step zero q rest l h =
     sym (div-eq-of-lt-le d (omega arith) (omega (arith, add-mul q 1 d)))
 ends total d step (suc k) q rest l h = absurd (omega arith)
 
--- The divisor is moved up by as many bits as the total is longer, and one more: above the total.
-pub record Aligned (total d k : ℕ) : Type 0 where
-  pub few : k ≤ 48
-  pub exact : (d * 2 ^ k) % 18_446_744_073_709_551_616 ≡ d * 2 ^ k
-  pub above : total < d * 2 ^ k
+-- a divisor below 256, moved up so far, is not cut off
+pub exact : (total d k : ℕ) → Above total d k → d < 256 → (d * 2 ^ k) % 18_446_744_073_709_551_616 ≡ d * 2 ^ k
+exact total d k a h =
+    let b : 8 + k ≤ 64 = omega (arith, a .few) in
+    shl-exact 8 k 64 (omega arith) b
 
+-- The divisor is moved up by as many bits as the total is longer, and one more: above the total.
 module _ (total d : ℕ) (some : 0 < d) (longer : d ≤ total) (low : total < 281_474_976_710_656) where
   -- the highest bits of the two
-  below-64 : total < 2 ^ 64
-  below-64 = omega arith
-
   by-tops : (i j : ℕ) → leadingZeros 64 d + suc i ≡ 64 → leadingZeros 64 total + suc j ≡ 64
       → 2 ^ i ≤ d → d < 2 ^ suc i → 2 ^ j ≤ total → total < 2 ^ suc j
-      → (leadingZeros 64 total ≤ leadingZeros 64 d + 1) × Aligned total d (leadingZeros 64 d + 1 - leadingZeros 64 total)
+      → (leadingZeros 64 total ≤ leadingZeros 64 d + 1) × Above total d (leadingZeros 64 d + 1 - leadingZeros 64 total)
   by-tops i j e f di di′ tj tj′ =
       let ij : i ≤ j = no-longer (decLe (suc j) i) in
       let k : leadingZeros 64 d + 1 - leadingZeros 64 total ≡ suc j - i = omega arith in
       let j48 : suc j ≤ 48 = short (decLe 48 j) in
-      let p : 2 ^ suc j ≡ 2 ^ i * 2 ^ (suc j - i) = let q : suc j ≡ i + (suc j - i) = omega arith in ap (λ n. 2 ^ n) q ∙ pow-add 2 i (suc j - i) in
+      let q : suc j ≡ i + (suc j - i) = omega arith in
+      let p : 2 ^ suc j ≡ 2 ^ i * 2 ^ (suc j - i) = ap (λ n. 2 ^ n) q ∙ pow-add 2 i (suc j - i) in
       let a : 2 ^ i * 2 ^ (suc j - i) ≤ d * 2 ^ (suc j - i) = mul-le-mul-right (2 ^ (suc j - i)) di in
-      let b : suc i + (suc j - i) ≤ 64 = omega arith in
-      (omega arith, rw k record { few = omega arith; exact = shl-exact (suc i) (suc j - i) 64 di′ b; above = omega arith })
+      (omega arith, rw k record { few = omega arith; above = omega arith })
     where
       no-longer : Dec (suc j ≤ i) → i ≤ j
       no-longer (yes h) = absurd (omega (arith, pow-mono h))
@@ -94,8 +93,8 @@ module _ (total d : ℕ) (some : 0 < d) (longer : d ≤ total) (low : total < 28
       short (yes h) = absurd (omega (arith, pow-mono h))
       short (no h) = lt-of-not-le h
 
-  pub aligned : (leadingZeros 64 total ≤ leadingZeros 64 d + 1) × Aligned total d (leadingZeros 64 d + 1 - leadingZeros 64 total)
-  aligned =
+  pub lies-above : (leadingZeros 64 total ≤ leadingZeros 64 d + 1) × Above total d (leadingZeros 64 d + 1 - leadingZeros 64 total)
+  lies-above =
       let (i, e, di, di′) = leading-top 64 d some (omega arith) in
       let (j, f, tj, tj′) = leading-top 64 total (omega arith) (omega arith) in
       by-tops i j e f di di′ tj tj′

@@ -16,6 +16,7 @@ ghost use Rattle.rules.specs.Numbers.{largest-stamp, up};
 ghost use Rattle.rules.specs.States.{lag, at-or-before, is-key};
 ghost use Rattle.rules.specs.OneEvent.{same-key, second-character-takes-thumb, second-thumb-takes-character, short-overlap};
 ghost use lib.Dec.{ltb};
+ghost use Rattle.waits.specs.Turns.{Above};
 ghost use Rattle.waits.specs.Capped.{since-at-most, later-at-most, lag-at-most, signed-at-most, distance-at-most, is-before};
 
 // The largest number that a stamp can hold.
@@ -153,8 +154,18 @@ fn bounded(x: Lag) -> u64
     most
 }
 
-// total / d, with no division: d is moved up by as many bits as the total is longer and one more, and back down bit by bit. That
-// is at most 48 turns.
+// By how many bits d is moved up to lie above the total: as many as the total is longer, and one more. The quotient takes so many
+// turns, 48 at most (`Above`).
+fn turns(total: u64, d: u64) -> u32
+    requires { ⌜ total < 281_474_976_710_656 ⌝ }
+    requires { ⌜ 0 < d ⌝ }
+    requires { ⌜ d ≤ total ⌝ }
+    ensures { λ k. ⌜ Above total d k ⌝ }
+{
+    u64::leading_zeros(d) + 1 - u64::leading_zeros(total)
+}
+
+// total / d, with no division: d is moved up above the total and back down, bit by bit.
 fn quotient(total: u64, d: u64) -> u64
     requires { ⌜ total < 281_474_976_710_656 ⌝ }
     requires { ⌜ 0 < d ⌝ }
@@ -164,7 +175,7 @@ fn quotient(total: u64, d: u64) -> u64
     if total < d {
         return 0;
     }
-    let mut k = u64::leading_zeros(d) + 1 - u64::leading_zeros(total);
+    let mut k = turns(total, d);
     let mut step = d << k;
     let mut rest = total;
     let mut q: u64 = 0;

@@ -3,8 +3,7 @@ use mathlib.Core.Path.{refl, sym}
 use native.Mathlib.Omega.{arith}
 use native.Mathlib.Nat.{div-eq-of-lt}
 use borrow.Author.Needs.{needs}
-use lib.Count.{leading-le}
-use Rattle.waits.proofs.Halving.{Left, keeps, takes, within, ends, aligned}
+use Rattle.waits.proofs.Halving.{Left, keeps, takes, within, ends, exact}
 use Rattle.waits.proofs.quotient.Statement.{statement}
 use Rattle.waits.proofs.quotient.Tie as tie
 use Rattle.waits.proofs.quotient.Reads as reads
@@ -19,22 +18,19 @@ abbrev μ-loop : tie.MeasureT-loop
 returns : tie.Need-returns Inv-loop μ-loop
 returns c = sym (div-eq-of-lt (c .if1 .taken))
 
-add-k : tie.Need-add-k Inv-loop μ-loop
-add-k c = record { fits = omega (arith, leading-le 64 (c .before .args .d)) }
-
-sub-k : tie.Need-sub-k Inv-loop μ-loop
-sub-k c = aligned _ _ (search needs) (c .if1 .left) (search needs) .0
+requires : tie.Need-turns-requires Inv-loop μ-loop
+requires c κs = (search needs, (search needs, c .if1 .left))
 
 cast-step : tie.Need-cast-step Inv-loop μ-loop
-cast-step c = record { fits = omega (arith, aligned _ _ (search needs) (c .if1 .left) (search needs) .1 .few) }
+cast-step c = record { fits = omega (arith, c .turns .ensures .few) }
 
 shl-step : tie.Need-shl-step Inv-loop μ-loop
-shl-step c = omega (arith, aligned _ _ (search needs) (c .if1 .left) (search needs) .1 .few)
+shl-step c = omega (arith, c .turns .ensures .few)
 
 loop-holds : tie.Need-loop-holds Inv-loop μ-loop
 loop-holds c =
-    let a = aligned _ _ (search needs) (c .if1 .left) (search needs) .1 in
-    rw (a .exact) record { moved = refl; parts = search needs; small = a .above }
+    let above = c .turns .ensures in
+    rw (exact _ _ _ above (search needs)) record { moved = refl; parts = search needs; small = above .above }
 
 pub quotient-spec : {M : Type 1} → statement M
 quotient-spec =
@@ -43,8 +39,7 @@ quotient-spec =
     Inv-loop
     μ-loop
     returns
-    add-k
-    sub-k
+    requires
     cast-step
     shl-step
     loop-holds
