@@ -7,13 +7,18 @@ use rules::Stamp;
 use waits::at_or_before;
 use waits::before;
 use waits::character_first_wait;
+use waits::character_first_wait_below;
 use waits::character_wait;
+use waits::character_wait_below;
 use waits::is_key;
 use waits::lag;
 use waits::later;
 use waits::shorter;
+use waits::since;
 use waits::thumb_first_wait;
+use waits::thumb_first_wait_below;
 use waits::thumb_wait;
+use waits::thumb_wait_below;
 ghost use mathlib.Core.Path.{_≡_};
 ghost use Rattle.rules.specs.States.{keys-below, stamps-by, in-order, well-formed};
 ghost use Rattle.rules.specs.OneEvent.{due-by};
@@ -128,13 +133,24 @@ pub fn well_formed(machine: Machine) -> bool
     in_order(resting)
 }
 
-// Whether a resting state is due at a stamp.
+// Whether a resting state is due at a stamp. It is decided by products, since it is asked at every event: a wait is worked out
+// only of a thumb that was held long before M.
 pub fn is_due(s: Settings, now: Stamp, resting: Resting) -> bool
     ensures { λ r. ⌜ r ≡ due-by now (deadline-at-most s resting) ⌝ }
 {
-    match deadline(s, resting) {
-        Due::Never => false,
-        Due::At(stamp) => at_or_before(stamp, now),
+    match resting {
+        Resting::S1 => false,
+        Resting::S2(_, m) => character_wait_below(s, since(m, now)),
+        Resting::S3(_, o) => {
+            if s.solo == 1 {
+                thumb_wait_below(s, since(o, now))
+            } else {
+                false
+            }
+        }
+        Resting::S4(_, m, _, o) => character_first_wait_below(s, lag(m, o), since(o, now)),
+        Resting::S5(_, o, _, m) => thumb_first_wait_below(s, lag(o, m), since(m, now)),
+        Resting::S6(_, _, _, m, r) => at_or_before(later(r, lag(m, r)), now),
     }
 }
 

@@ -1,2 +1,4 @@
 mod Laws
+mod Allowed
+pub mod FormNotAsked
 pub mod Calls

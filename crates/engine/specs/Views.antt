@@ -1,33 +1,35 @@
 -- What the answers of this crate say.
 use Prim.Native.Nat.{ℕ}
 use mathlib.Core.List.{List}
-use mathlib.Core.Option.{Option, none, some}
 use mathlib.Core.Path.{_≡_}
 use lib.Dec.{eqb}
 use Rattle.rules.specs.Choice.{if_then_else_}
+use Rattle.rules.specs.Numbers.{keys}
 use Rattle.rules.specs.OneEvent.{Done}
 use Rattle.rules.specs.GivenBack as given-back
-use Rattle.rules.specs.GivenBack.{Answer, acceptance}
+use Rattle.rules.specs.GivenBack.{Answer, Verdict, acceptance}
 use Rattle.rules.specs.declared.Stamp.{Stamp}
 use Rattle.rules.specs.declared.Machine.{Machine}
 use Rattle.rules.specs.declared.Item.{Item}
 use Rattle.rules.specs.declared.Input.{Input}
 use Rattle.preview.specs.Views.{listed, sending-list, packed-sendings}
-use Rattle.engine.specs.declared.Meaning.{Meaning}
-use Rattle.engine.specs.declared.Meaning.the-variants as meaning
-use Rattle.engine.specs.declared.Verdict.{Verdict}
-use Rattle.engine.specs.declared.Verdict.the-variants.{Refused, Accepted}
 use Rattle.engine.specs.declared.Stepped.{Stepped}
 use Rattle.engine.specs.declared.Change.{Change}
 use Rattle.engine.specs.declared.Taken as Taken
 
-abbrev pub allowed : Meaning → Option Input
-allowed meaning.None = none
-allowed (meaning.Some i) = some i
+-- how many keys an event of a kind may name (`input` in rules/specs/GivenBack.antt): 31 character keys, two thumbs, and the number 0
+abbrev pub keys-of : ℕ → ℕ
+keys-of kind =
+    if eqb kind 1 then keys else
+    if eqb kind 2 then keys else
+    if eqb kind 3 then 2 else
+    if eqb kind 4 then 2 else
+    if eqb kind 5 then 1 else
+    if eqb kind 6 then 1 else 0
 
-abbrev pub judged : Verdict → given-back.Verdict
-judged (Refused n) = given-back.refused n
-judged (Accepted i) = given-back.accepted i
+-- the verdict that a number tells: 0, the event is accepted as an input; else it is refused with that number
+abbrev pub judged : ℕ → Input → Verdict
+judged n i = if eqb n 0 then given-back.accepted i else given-back.refused n
 
 -- the number, the items and the sendings as lists, and the machine
 abbrev pub stepped : Stepped → Answer

@@ -10,33 +10,29 @@ pub use preview::Sendings;
 pub use preview::Signs;
 use preview::sent;
 use rules::Event;
-use rules::Input;
 use rules::Key;
 use rules::Machine;
 use rules::Resting;
 use rules::Settings;
 use rules::Stamp;
-use rules::Thumb;
 use states::act;
 use states::in_s1;
 use states::late;
 use waits::before;
-use waits::is_key;
 pub use waits::longest_wait;
-use waits::same_key;
+use waits::lower_key;
 ghost use mathlib.Core.Path.{_≡_};
 ghost use mathlib.Core.Bool.{true};
 ghost use mathlib.Core.List.{[]};
-ghost use mathlib.Core.Option.{none, some};
-ghost use lib.Dec.{eqb};
-ghost use Rattle.rules.specs.Choice.{if_then_else_};
-ghost use Rattle.rules.specs.States.{is-key, deadline, well-formed};
+ghost use Rattle.rules.specs.States.{well-formed};
 ghost use Rattle.rules.specs.OneEvent.{one-event};
-ghost use Rattle.rules.specs.GivenBack.{input, judge-stamp, judge, refusal, acceptance, step};
+ghost use Rattle.rules.specs.GivenBack.{judge-stamp, judge, refusal, acceptance, step};
 ghost use Rattle.preview.specs.Views.{Sends};
+ghost use Rattle.rules.specs.declared.Input.{Input};
 ghost use Rattle.effects.specs.Views.{done};
-ghost use Rattle.deadlines.specs.Capped.{deadline-at-most};
-ghost use Rattle.engine.specs.Views.{allowed, judged, Changes, Gives, taken, apart-from-sent};
+ghost use Rattle.states.specs.Meant.{meant};
+ghost use Rattle.engine.specs.Views.{keys-of, judged, Changes, Gives, taken, apart-from-sent};
+ghost use Rattle.engine.specs.FormNotAsked.{judge-event, one-event-at-most, take-formed};
 
 // What an event gives back: the number, the items committed, what is sent, and the machine.
 pub struct Stepped {
@@ -58,127 +54,81 @@ struct Change {
     machine: Machine,
 }
 
-// An event's kind and key as an input, if they are allowed.
-enum Meaning {
-    None,
-    Some(Input),
-}
-
-// An event is refused with a number, or accepted as an input.
-enum Verdict {
-    Refused(u8),
-    Accepted(Input),
-}
-
-// A character key.
-fn with_character(key: Key, input: Input) -> Meaning
-    ensures { λ r. ⌜ allowed r ≡ (if is-key key then some input else none) ⌝ }
-{
-    if is_key(key) {
-        return Meaning::Some(input);
-    }
-    Meaning::None
-}
-
-// A thumb key: 0 is the left one, 1 the right one.
-fn with_thumb(key: Key, left: Input, right: Input) -> Meaning
-    ensures { λ r. ⌜ allowed r ≡ (if eqb (key .0) 0 then some left else (if eqb (key .0) 1 then some right else none)) ⌝ }
-{
-    if same_key(key, Key(0)) {
-        return Meaning::Some(left);
-    }
-    if same_key(key, Key(1)) {
-        return Meaning::Some(right);
-    }
-    Meaning::None
-}
-
-// No key: its number is 0.
-fn with_none(key: Key, input: Input) -> Meaning
-    ensures { λ r. ⌜ allowed r ≡ (if eqb (key .0) 0 then some input else none) ⌝ }
-{
-    if same_key(key, Key(0)) {
-        return Meaning::Some(input);
-    }
-    Meaning::None
-}
-
-fn meaning_of(kind: u8, key: Key) -> Meaning
-    ensures { λ r. ⌜ allowed r ≡ input kind key ⌝ }
+// How many keys an event of a kind may name: 31 character keys, two thumbs, and no key, whose number is 0.
+fn keys_of(kind: u8) -> Key
+    ensures { λ r. ⌜ r .0 ≡ keys-of kind ⌝ }
 {
     match kind {
-        1 => with_character(key, Input::CharacterDown(key)),
-        2 => with_character(key, Input::CharacterUp(key)),
-        3 => with_thumb(
-            key,
-            Input::ThumbDown(Thumb::Left),
-            Input::ThumbDown(Thumb::Right),
-        ),
-        4 => with_thumb(
-            key,
-            Input::ThumbUp(Thumb::Left),
-            Input::ThumbUp(Thumb::Right),
-        ),
-        5 => with_none(key, Input::FunctionDown),
-        6 => with_none(key, Input::Tick),
-        _ => Meaning::None,
+        1 => Machine::KEYS,
+        2 => Machine::KEYS,
+        3 => Key(2),
+        4 => Key(2),
+        5 => Key(1),
+        6 => Key(1),
+        _ => Key(0),
     }
 }
 
-fn judge_stamp(last: Stamp, now: Stamp, input: Input) -> Verdict
-    ensures { λ r. ⌜ judged r ≡ judge-stamp last now input ⌝ }
+// The stamp's number: 4, 5, or 0 where it is accepted.
+fn judge_stamp(last: Stamp, now: Stamp) -> u8
+    ensures { λ r. ⌜ ((i : Input) → judged r i ≡ judge-stamp last now i) ⌝ }
 {
     if before(Machine::LARGEST, now) {
-        return Verdict::Refused(4);
+        return 4;
     }
     if before(now, last) {
-        return Verdict::Refused(5);
+        return 5;
     }
-    Verdict::Accepted(input)
+    0
 }
 
-// The checks of an event, in document 01's order.
-fn judge(machine: Machine, event: Event) -> Verdict
-    ensures { λ r. ⌜ judged r ≡ judge machine event ⌝ }
+// The checks of an event itself, in document 01's order; 0 where it is accepted.
+fn judge_event(machine: Machine, event: Event) -> u8
+    ensures { λ r. ⌜ judged r (meant (event .kind) (event .key)) ≡ judge-event machine event ⌝ }
 {
-    if !well_formed(machine) {
-        return Verdict::Refused(2);
-    }
     let last = machine.last;
     let key = event.key;
     let now = event.stamp;
-    match meaning_of(event.kind, key) {
-        Meaning::None => Verdict::Refused(3),
-        Meaning::Some(input) => judge_stamp(last, now, input),
+    if lower_key(key, keys_of(event.kind)) {
+        return judge_stamp(last, now);
     }
+    3
+}
+
+// All checks: whether the machine is well formed comes first.
+fn judge(machine: Machine, event: Event) -> u8
+    ensures { λ r. ⌜ judged r (meant (event .kind) (event .key)) ≡ judge machine event ⌝ }
+{
+    if !well_formed(machine) {
+        return 2;
+    }
+    judge_event(machine, event)
 }
 
 // First what is late, then the event acts. What is late leaves S1, which commits nothing, so its items are all.
-fn one_event(s: Settings, now: Stamp, resting: Resting, input: Input) -> Effect
-    requires { ⌜ deadline-at-most s resting ≡ deadline s resting ⌝ }
-    ensures { λ r. ⌜ done r ≡ one-event s now resting input ⌝ }
+fn one_event(s: Settings, now: Stamp, resting: Resting, kind: u8, k: Key) -> Effect
+    ensures { λ r. ⌜ done r ≡ one-event-at-most s now resting (meant kind k) ⌝ }
 {
     if is_due(s, now, resting) {
         let first = late(s, resting);
         let items = first.items;
-        let second = in_s1(now, input);
+        let second = in_s1(now, kind, k);
         let next = second.resting;
         return Effect {
             items: items,
             resting: next,
         };
     }
-    act(s, now, resting, input)
+    act(s, now, resting, kind, k)
 }
 
 // What an accepted event commits, and the machine after it.
-fn carry_out(machine: Machine, now: Stamp, input: Input) -> Change
-    requires { ⌜ well-formed machine ≡ true ⌝ }
-    ensures { λ r. ⌜ Changes r machine now (one-event (machine .settings) now (machine .resting) input) ⌝ }
+fn carry_out(machine: Machine, now: Stamp, kind: u8, k: Key) -> Change
+    ensures { λ r. ⌜ Changes r machine now (one-event-at-most (machine .settings) now (machine .resting) (meant kind k)) ⌝ }
 {
     let s = machine.settings;
     let resting = machine.resting;
-    let effect = one_event(s, now, resting, input);
+    let effect = one_event(s, now, resting, kind, k);
     let committed = effect.items;
     let next = effect.resting;
     Change {
@@ -191,12 +141,12 @@ fn carry_out(machine: Machine, now: Stamp, input: Input) -> Change
     }
 }
 
-fn accepted(machine: Machine, now: Stamp, input: Input) -> Stepped
+fn accepted(machine: Machine, now: Stamp, kind: u8, k: Key) -> Stepped
     requires { ⌜ well-formed machine ≡ true ⌝ }
-    ensures { λ r. ⌜ Gives r (acceptance machine now (one-event (machine .settings) now (machine .resting) input)) ⌝ }
+    ensures { λ r. ⌜ Gives r (acceptance machine now (one-event (machine .settings) now (machine .resting) (meant kind k))) ⌝ }
 {
     let resting = machine.resting;
-    let done = carry_out(machine, now, input);
+    let done = carry_out(machine, now, kind, k);
     let items = done.items;
     let after = done.machine;
     let next = after.resting;
@@ -239,24 +189,36 @@ pub fn step(machine: Machine, event: Event) -> Stepped
     ensures { λ r. ⌜ Gives r (step machine event) ⌝ }
 {
     let now = event.stamp;
-    match judge(machine, event) {
-        Verdict::Refused(number) => refused(machine, number),
-        Verdict::Accepted(meant) => accepted(machine, now, meant),
+    let key = event.key;
+    let number = judge(machine, event);
+    if number != 0 {
+        return refused(machine, number);
     }
+    accepted(machine, now, event.kind, key)
 }
 
-// The same apart from what is sent, for a caller that shows nothing.
+// An event apart from what is sent, for a caller who knows that the machine is well formed: it is not asked again.
+pub fn take_formed(machine: Machine, event: Event) -> Taken
+    ensures { λ r. ⌜ taken r ≡ take-formed machine event ⌝ }
+{
+    let now = event.stamp;
+    let key = event.key;
+    let number = judge_event(machine, event);
+    if number != 0 {
+        return Taken::Refused(number);
+    }
+    let done = carry_out(machine, now, event.kind, key);
+    let items = done.items;
+    let after = done.machine;
+    Taken::Accepted(items, after)
+}
+
+// One event at any machine apart from what is sent, for a caller that shows nothing.
 pub fn take(machine: Machine, event: Event) -> Taken
     ensures { λ r. ⌜ taken r ≡ apart-from-sent (step machine event) ⌝ }
 {
-    let now = event.stamp;
-    match judge(machine, event) {
-        Verdict::Refused(number) => Taken::Refused(number),
-        Verdict::Accepted(meant) => {
-            let done = carry_out(machine, now, meant);
-            let items = done.items;
-            let after = done.machine;
-            Taken::Accepted(items, after)
-        }
+    if !well_formed(machine) {
+        return Taken::Refused(2);
     }
+    take_formed(machine, event)
 }

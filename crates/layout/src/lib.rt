@@ -5,7 +5,7 @@ use rules::Machine;
 use rules::Thumb;
 ghost use mathlib.Core.Path.{_≡_};
 ghost use Rattle.rules.specs.Layout.{code-point};
-ghost use Rattle.layout.specs.Column.{column-of};
+ghost use Rattle.layout.specs.Column.{column-of, rows, code-point-in};
 
 // A row for each key: its code point on the plain face, with the left thumb, with the right thumb; 0 for an empty face.
 const FACES: [[u16; 3]; 31] = [
@@ -61,15 +61,30 @@ fn column(face: Face) -> usize
     }
 }
 
-// The code point on a key's face; 0 for an empty face, and for a key that is not there.
+// The table, for a caller that lends it to many look-ups: it is laid down once, and not at each of them.
+pub fn faces() -> [[u16; 3]; 31]
+    ensures { λ r. ⌜ r ≡ rows ⌝ }
+{
+    FACES
+}
+
+// The code point on a key's face in a lent table; 0 for an empty face, and for a key that is not there.
+pub fn code_point_in(table: &[[u16; 3]; 31], key: Key, face: Face) -> u16
+    ensures { λ r. ⌜ r ≡ code-point-in (now (table .entry)) key face ⌝ }
+{
+    let at = key.0;
+    if at < Machine::KEYS.0 {
+        let row = at as usize;
+        let place = column(face);
+        return table[row][place];
+    }
+    0
+}
+
+// The code point on a key's face.
 pub fn code_point(key: Key, face: Face) -> u16
     ensures { λ r. ⌜ r ≡ code-point key face ⌝ }
 {
-    let at = key.0;
-    if Machine::KEYS.0 <= at {
-        return 0;
-    }
-    let row = at as usize;
-    let place = column(face);
-    FACES[row][place]
+    let table = faces();
+    code_point_in(&table, key, face)
 }

@@ -6,7 +6,7 @@ use rules::Thumb;
 ghost use mathlib.Core.Path.{_≡_};
 ghost use mathlib.Core.List.{_++_};
 ghost use Rattle.rules.specs.ZeroDelay.{sign-unless-0, mark-word, sign-of, signs, shown, sent};
-ghost use Rattle.preview.specs.Views.{listed, sign-list, packed, Holds, Sends};
+ghost use Rattle.preview.specs.Views.{listed, word-in, sign-list, packed, Holds, Sends};
 
 // The items that a step commits, in order.
 pub enum Items {
@@ -38,14 +38,22 @@ fn mark_word(thumb: Thumb) -> u16
     }
 }
 
-// The sign of an item, 0 for an empty face.
+// The sign of an item by a lent table of faces, 0 for an empty face.
+pub fn word_in(table: &[[u16; 3]; 31], item: Item) -> u16
+    ensures { λ r. ⌜ r ≡ word-in (now (table .entry)) item ⌝ }
+{
+    match item {
+        Item::Character(key, face) => layout::code_point_in(table, key, face),
+        Item::Mark(thumb) => mark_word(thumb),
+    }
+}
+
+// The sign of an item by the layout.
 pub fn word(item: Item) -> u16
     ensures { λ r. ⌜ sign-unless-0 r ≡ sign-of item ⌝ }
 {
-    match item {
-        Item::Character(key, face) => layout::code_point(key, face),
-        Item::Mark(thumb) => mark_word(thumb),
-    }
+    let table = layout::faces();
+    word_in(&table, item)
 }
 
 // The character that is shown while a resting state waits, 0 for none.

@@ -1,6 +1,9 @@
 // What each resting state does when it is late and at each event: one function for each state, in the order of document 01.
-// key is M, a character key pressed at m, thumb is O, a thumb pressed at o, r is the thumb's release; n is the new character
-// key, p the thumb of the event.
+// key is M, a character key pressed at m, thumb is O, a thumb pressed at o, r is the thumb's release; p is the thumb of the event.
+//
+// An event comes as its kind and key k, as they stand in a record: 1 character down, 2 character up, 3 thumb down, 4 thumb up, 5
+// function down, else a tick (`meant`). An enum of inputs would be taken apart a second time here, which costs the reader a jump for
+// each event.
 use effects::Effect;
 use effects::commits_both;
 use effects::commits_chord;
@@ -8,7 +11,6 @@ use effects::commits_mark;
 use effects::commits_plain;
 use effects::goes_to;
 use effects::same_thumb;
-use rules::Input;
 use rules::Key;
 use rules::Resting;
 use rules::Settings;
@@ -26,6 +28,17 @@ ghost use Rattle.rules.specs.OneEvent.{_leaving_, nothing, mark, plain, chord, 
 ghost use Rattle.rules.specs.OneEvent.{late, in-S1, in-S2, in-S3, in-S4, in-S5, in-S6, act};
 ghost use Rattle.rules.specs.declared.Resting.the-variants.{S1, S3, S4, S6};
 ghost use Rattle.effects.specs.Views.{done};
+ghost use Rattle.states.specs.Meant.{thumb-of, meant};
+
+// The thumb that a key number of kind 3 or 4 names.
+fn thumb_of(k: Key) -> Thumb
+    ensures { λ r. ⌜ r ≡ thumb-of k ⌝ }
+{
+    if same_key(k, Key(0)) {
+        return Thumb::Left;
+    }
+    Thumb::Right
+}
 
 pub fn late(s: Settings, resting: Resting) -> Effect
     ensures { λ r. ⌜ done r ≡ late s resting ⌝ }
@@ -40,62 +53,64 @@ pub fn late(s: Settings, resting: Resting) -> Effect
     }
 }
 
-pub fn in_s1(now: Stamp, input: Input) -> Effect
-    ensures { λ r. ⌜ done r ≡ in-S1 now input ⌝ }
+pub fn in_s1(now: Stamp, kind: u8, k: Key) -> Effect
+    ensures { λ r. ⌜ done r ≡ in-S1 now (meant kind k) ⌝ }
 {
-    match input {
-        Input::CharacterDown(n) => goes_to(Resting::S2(n, now)),
-        Input::CharacterUp(_) => goes_to(Resting::S1),
-        Input::ThumbDown(p) => goes_to(Resting::S3(p, now)),
-        Input::ThumbUp(_) => goes_to(Resting::S1),
-        Input::FunctionDown => goes_to(Resting::S1),
-        Input::Tick => goes_to(Resting::S1),
+    match kind {
+        1 => goes_to(Resting::S2(k, now)),
+        2 => goes_to(Resting::S1),
+        3 => goes_to(Resting::S3(thumb_of(k), now)),
+        4 => goes_to(Resting::S1),
+        5 => goes_to(Resting::S1),
+        _ => goes_to(Resting::S1),
     }
 }
 
-fn in_s2(now: Stamp, key: Key, m: Stamp, input: Input) -> Effect
-    ensures { λ r. ⌜ done r ≡ in-S2 now key m input ⌝ }
+fn in_s2(now: Stamp, key: Key, m: Stamp, kind: u8, k: Key) -> Effect
+    ensures { λ r. ⌜ done r ≡ in-S2 now key m (meant kind k) ⌝ }
 {
     let same = Resting::S2(key, m);
-    match input {
-        Input::CharacterDown(n) => commits_plain(key, Resting::S2(n, now)),
-        Input::CharacterUp(n) => {
-            if same_key(n, key) {
+    match kind {
+        1 => commits_plain(key, Resting::S2(k, now)),
+        2 => {
+            if same_key(k, key) {
                 commits_plain(key, Resting::S1)
             } else {
                 goes_to(same)
             }
         }
-        Input::ThumbDown(p) => goes_to(Resting::S4(key, m, p, now)),
-        Input::ThumbUp(_) => goes_to(same),
-        Input::FunctionDown => commits_plain(key, Resting::S1),
-        Input::Tick => goes_to(same),
+        3 => goes_to(Resting::S4(key, m, thumb_of(k), now)),
+        4 => goes_to(same),
+        5 => commits_plain(key, Resting::S1),
+        _ => goes_to(same),
     }
 }
 
-fn in_s3(s: Settings, now: Stamp, thumb: Thumb, o: Stamp, input: Input) -> Effect
-    ensures { λ r. ⌜ done r ≡ in-S3 s now thumb o input ⌝ }
+fn in_s3(s: Settings, now: Stamp, thumb: Thumb, o: Stamp, kind: u8, k: Key) -> Effect
+    ensures { λ r. ⌜ done r ≡ in-S3 s now thumb o (meant kind k) ⌝ }
 {
     let same = Resting::S3(thumb, o);
-    match input {
-        Input::CharacterDown(n) => goes_to(Resting::S5(thumb, o, n, now)),
-        Input::CharacterUp(_) => goes_to(same),
-        Input::ThumbDown(p) => {
+    match kind {
+        1 => goes_to(Resting::S5(thumb, o, k, now)),
+        2 => goes_to(same),
+        3 => {
+            let p = thumb_of(k);
             if same_thumb(p, thumb) {
                 goes_to(same)
             } else {
                 commits_mark(s, thumb, Resting::S3(p, now))
             }
         }
-        Input::ThumbUp(p) => {
+        4 => {
+            let p = thumb_of(k);
             if same_thumb(p, thumb) {
                 commits_mark(s, thumb, Resting::S1)
             } else {
                 goes_to(same)
             }
         }
-        Input::FunctionDown => commits_mark(s, thumb, Resting::S1),
-        Input::Tick => goes_to(same),
+        5 => commits_mark(s, thumb, Resting::S1),
+        _ => goes_to(same),
     }
 }
 
@@ -117,42 +132,45 @@ fn in_s4(
     m: Stamp,
     thumb: Thumb,
     o: Stamp,
-    input: Input,
+    kind: u8,
+    k: Key,
 ) -> Effect
-    ensures { λ r. ⌜ done r ≡ in-S4 s now key m thumb o input ⌝ }
+    ensures { λ r. ⌜ done r ≡ in-S4 s now key m thumb o (meant kind k) ⌝ }
 {
     let same = Resting::S4(key, m, thumb, o);
-    match input {
-        Input::CharacterDown(n) => {
+    match kind {
+        1 => {
             if second_character_takes_thumb(lag(m, o), lag(o, now)) {
-                commits_plain(key, Resting::S5(thumb, o, n, now))
+                commits_plain(key, Resting::S5(thumb, o, k, now))
             } else {
-                commits_chord(key, thumb, Resting::S2(n, now))
+                commits_chord(key, thumb, Resting::S2(k, now))
             }
         }
-        Input::CharacterUp(n) => {
-            if same_key(n, key) {
+        2 => {
+            if same_key(k, key) {
                 key_up_in_s4(s, now, key, m, thumb, o)
             } else {
                 goes_to(same)
             }
         }
-        Input::ThumbDown(p) => {
+        3 => {
+            let p = thumb_of(k);
             if same_thumb(p, thumb) {
                 goes_to(same)
             } else {
                 commits_chord(key, thumb, Resting::S3(p, now))
             }
         }
-        Input::ThumbUp(p) => {
+        4 => {
+            let p = thumb_of(k);
             if same_thumb(p, thumb) {
                 commits_chord(key, thumb, Resting::S1)
             } else {
                 goes_to(same)
             }
         }
-        Input::FunctionDown => commits_chord(key, thumb, Resting::S1),
-        Input::Tick => goes_to(same),
+        5 => commits_chord(key, thumb, Resting::S1),
+        _ => goes_to(same),
     }
 }
 
@@ -194,36 +212,39 @@ fn in_s5(
     o: Stamp,
     key: Key,
     m: Stamp,
-    input: Input,
+    kind: u8,
+    k: Key,
 ) -> Effect
-    ensures { λ r. ⌜ done r ≡ in-S5 s now thumb o key m input ⌝ }
+    ensures { λ r. ⌜ done r ≡ in-S5 s now thumb o key m (meant kind k) ⌝ }
 {
     let same = Resting::S5(thumb, o, key, m);
-    match input {
-        Input::CharacterDown(n) => commits_chord(key, thumb, Resting::S2(n, now)),
-        Input::CharacterUp(n) => {
-            if same_key(n, key) {
+    match kind {
+        1 => commits_chord(key, thumb, Resting::S2(k, now)),
+        2 => {
+            if same_key(k, key) {
                 commits_chord(key, thumb, Resting::S1)
             } else {
                 goes_to(same)
             }
         }
-        Input::ThumbDown(p) => {
+        3 => {
+            let p = thumb_of(k);
             if same_thumb(p, thumb) {
                 goes_to(same)
             } else {
                 thumb_down_in_s5(s, now, thumb, o, key, m, p)
             }
         }
-        Input::ThumbUp(p) => {
+        4 => {
+            let p = thumb_of(k);
             if same_thumb(p, thumb) {
                 thumb_up_in_s5(s, now, thumb, o, key, m)
             } else {
                 goes_to(same)
             }
         }
-        Input::FunctionDown => commits_chord(key, thumb, Resting::S1),
-        Input::Tick => goes_to(same),
+        5 => commits_chord(key, thumb, Resting::S1),
+        _ => goes_to(same),
     }
 }
 
@@ -235,37 +256,38 @@ fn in_s6(
     key: Key,
     m: Stamp,
     r: Stamp,
-    input: Input,
+    kind: u8,
+    k: Key,
 ) -> Effect
-    ensures { λ e. ⌜ done e ≡ in-S6 s now thumb o key m r input ⌝ }
+    ensures { λ e. ⌜ done e ≡ in-S6 s now thumb o key m r (meant kind k) ⌝ }
 {
     let same = Resting::S6(thumb, o, key, m, r);
-    match input {
-        Input::CharacterDown(n) => commits_chord(key, thumb, Resting::S2(n, now)),
-        Input::CharacterUp(n) => {
-            if same_key(n, key) {
+    match kind {
+        1 => commits_chord(key, thumb, Resting::S2(k, now)),
+        2 => {
+            if same_key(k, key) {
                 commits_chord(key, thumb, Resting::S1)
             } else {
                 goes_to(same)
             }
         }
-        Input::ThumbDown(p) => commits_chord(key, thumb, Resting::S3(p, now)),
-        Input::ThumbUp(_) => goes_to(same),
-        Input::FunctionDown => commits_both(s, thumb, key),
-        Input::Tick => goes_to(same),
+        3 => commits_chord(key, thumb, Resting::S3(thumb_of(k), now)),
+        4 => goes_to(same),
+        5 => commits_both(s, thumb, key),
+        _ => goes_to(same),
     }
 }
 
 // What a state does at an event.
-pub fn act(s: Settings, now: Stamp, resting: Resting, input: Input) -> Effect
-    ensures { λ r. ⌜ done r ≡ act s now resting input ⌝ }
+pub fn act(s: Settings, now: Stamp, resting: Resting, kind: u8, k: Key) -> Effect
+    ensures { λ r. ⌜ done r ≡ act s now resting (meant kind k) ⌝ }
 {
     match resting {
-        Resting::S1 => in_s1(now, input),
-        Resting::S2(key, m) => in_s2(now, key, m, input),
-        Resting::S3(thumb, o) => in_s3(s, now, thumb, o, input),
-        Resting::S4(key, m, thumb, o) => in_s4(s, now, key, m, thumb, o, input),
-        Resting::S5(thumb, o, key, m) => in_s5(s, now, thumb, o, key, m, input),
-        Resting::S6(thumb, o, key, m, r) => in_s6(s, now, thumb, o, key, m, r, input),
+        Resting::S1 => in_s1(now, kind, k),
+        Resting::S2(key, m) => in_s2(now, key, m, kind, k),
+        Resting::S3(thumb, o) => in_s3(s, now, thumb, o, kind, k),
+        Resting::S4(key, m, thumb, o) => in_s4(s, now, key, m, thumb, o, kind, k),
+        Resting::S5(thumb, o, key, m) => in_s5(s, now, thumb, o, key, m, kind, k),
+        Resting::S6(thumb, o, key, m, r) => in_s6(s, now, thumb, o, key, m, r, kind, k),
     }
 }

@@ -1,2 +1,4 @@
 pub mod Bounds
 pub mod Distances
+pub mod Halving
+pub mod Below

@@ -1,9 +1,10 @@
 -- What the functions of this crate answer where document 01's number might not fit: the bounds of a sum, of a lag that is
 -- multiplied and of a stamp that is subtracted. In a machine that is well formed, at a stamp that it accepts, none is met.
-use Prim.Native.Nat.{ℕ, _+_, min}
+use Prim.Native.Nat.{ℕ, _+_, _-_, min}
 use mathlib.Core.Bool.{Bool}
 use lib.Dec.{ltb}
 use lib.IntN.{ℤ, pos, _-ℤ_}
+use Rattle.rules.specs.Choice.{if_then_else_}
 use Rattle.rules.specs.Numbers.{largest-stamp}
 use Rattle.rules.specs.States.{at}
 use Rattle.rules.specs.declared.Stamp.{Stamp}
@@ -15,6 +16,10 @@ largest-number = 18_446_744_073_709_551_615
 -- the stamp a lag later, or the largest number
 unfoldable pub later-at-most : Stamp → ℕ → Stamp
 later-at-most a x = at (min (a .0 + x) largest-number)
+
+-- how long b is past a, and one more; at the largest number every wait is over
+unfoldable pub since-at-most : Stamp → Stamp → ℕ
+since-at-most a b = if ltb (b .0) largest-number then b .0 + 1 - a .0 else largest-number
 
 -- a lag, or the largest stamp
 unfoldable pub lag-at-most : ℕ → ℕ

@@ -10,12 +10,14 @@ use rules::Machine;
 use rules::Settings;
 use rules::Stamp;
 ghost use mathlib.Core.Path.{_≡_};
-ghost use Prim.Native.Nat.{_+_, _-_, _*_, _≤_, min, max};
+ghost use Prim.Native.Nat.{_+_, _-_, _*_, _/_, _≤_, _<_, min, max};
 ghost use Rattle.rules.specs.Numbers as Numbers;
 ghost use Rattle.rules.specs.Numbers.{largest-stamp, up};
 ghost use Rattle.rules.specs.States.{lag, at-or-before, is-key};
 ghost use Rattle.rules.specs.OneEvent.{same-key, second-character-takes-thumb, second-thumb-takes-character, short-overlap};
-ghost use Rattle.waits.specs.Capped.{later-at-most, lag-at-most, signed-at-most, distance-at-most, is-before};
+ghost use lib.Dec.{ltb};
+ghost use Rattle.waits.specs.Turns.{Above};
+ghost use Rattle.waits.specs.Capped.{since-at-most, later-at-most, lag-at-most, signed-at-most, distance-at-most, is-before};
 
 // The largest number that a stamp can hold.
 const LARGEST_NUMBER: u64 = 18_446_744_073_709_551_615;
@@ -93,6 +95,12 @@ pub fn same_key(a: Key, b: Key) -> bool
     a.0 == b.0
 }
 
+pub fn lower_key(k: Key, most: Key) -> bool
+    ensures { λ r. ⌜ r ≡ ltb (k .0) (most .0) ⌝ }
+{
+    k.0 < most.0
+}
+
 pub fn is_key(k: Key) -> bool
     ensures { λ r. ⌜ r ≡ is-key k ⌝ }
 {
@@ -146,7 +154,44 @@ fn bounded(x: Lag) -> u64
     most
 }
 
-// x n / d, rounded up; 0 where d is 0. The only division.
+// By how many bits d is moved up to lie above the total: as many as the total is longer, and one more. The quotient takes so many
+// turns, 48 at most (`Above`).
+fn turns(total: u64, d: u64) -> u32
+    requires { ⌜ total < 281_474_976_710_656 ⌝ }
+    requires { ⌜ 0 < d ⌝ }
+    requires { ⌜ d ≤ total ⌝ }
+    ensures { λ k. ⌜ Above total d k ⌝ }
+{
+    u64::leading_zeros(d) + 1 - u64::leading_zeros(total)
+}
+
+// total / d, with no division: d is moved up above the total and back down, bit by bit.
+fn quotient(total: u64, d: u64) -> u64
+    requires { ⌜ total < 281_474_976_710_656 ⌝ }
+    requires { ⌜ 0 < d ⌝ }
+    requires { ⌜ d < 256 ⌝ }
+    ensures { λ r. ⌜ r ≡ total / d ⌝ }
+{
+    if total < d {
+        return 0;
+    }
+    let mut k = turns(total, d);
+    let mut step = d << k;
+    let mut rest = total;
+    let mut q: u64 = 0;
+    while 0 < k {
+        k -= 1;
+        step = step >> 1;
+        q = q + q;
+        if step <= rest {
+            rest -= step;
+            q += 1;
+        }
+    }
+    q
+}
+
+// x n / d, rounded up; 0 where d is 0.
 fn share(x: u64, n: u8, d: u8) -> u64
     requires { ⌜ x ≤ largest-stamp ⌝ }
     ensures { λ r. ⌜ r ≡ up (x * n) d ⌝ }
@@ -155,7 +200,7 @@ fn share(x: u64, n: u8, d: u8) -> u64
         return 0;
     }
     let less_one = (d - 1) as u64;
-    (x * (n as u64) + less_one) / (d as u64)
+    quotient(x * (n as u64) + less_one, d as u64)
 }
 
 // The wait of one key alone: t by the rest of the percentage, over the percentage.
@@ -223,4 +268,71 @@ pub fn longest_wait(s: Settings) -> Lag
     let first = first_wait(s);
     let second = longer(first, character_first_wait(s, first));
     Lag(first.0 + second.0)
+}
+
+// How long now is past a stamp, and one more, so that a wait from there is over where it is below this: 0 where now is before
+// it. Where now is the largest number every wait is over.
+pub fn since(from: Stamp, now: Stamp) -> Lag
+    ensures { λ r. ⌜ r .0 ≡ since-at-most from now ⌝ }
+{
+    let start = from.0;
+    let end = now.0;
+    if end < LARGEST_NUMBER {
+        if end < start {
+            return Lag(0);
+        }
+        return Lag(end + 1 - start);
+    }
+    Lag(LARGEST_NUMBER)
+}
+
+// Whether x n / d, rounded up, is below y. It needs no quotient.
+fn share_below(x: u64, n: u8, d: u8, y: u64) -> bool
+    requires { ⌜ x ≤ largest-stamp ⌝ }
+    ensures { λ r. ⌜ r ≡ ltb (up (x * n) d) y ⌝ }
+{
+    if y == 0 {
+        return false;
+    }
+    if d == 0 {
+        return true;
+    }
+    let total = x * (n as u64);
+    let most = y - 1;
+    if total <= most {
+        return true;
+    }
+    total <= most * (d as u64)
+}
+
+// Whether the wait of a character alone is below y.
+pub fn character_wait_below(s: Settings, y: Lag) -> bool
+    ensures { λ r. ⌜ r ≡ ltb (Numbers.A s) (y .0) ⌝ }
+{
+    share_below(s.t as u64, rest(s.j), s.j, y.0)
+}
+
+// Whether the wait of a thumb alone is below y.
+pub fn thumb_wait_below(s: Settings, y: Lag) -> bool
+    ensures { λ r. ⌜ r ≡ ltb (Numbers.B s) (y .0) ⌝ }
+{
+    share_below(s.t as u64, rest(s.l), s.l, y.0)
+}
+
+// Whether the wait of a character and a thumb that came a lag later is below y.
+pub fn character_first_wait_below(s: Settings, x: Lag, y: Lag) -> bool
+    ensures { λ r. ⌜ r ≡ ltb (Numbers.FJ s (lag-at-most (x .0))) (y .0) ⌝ }
+{
+    share_below(bounded(x), s.j, rest(s.j), y.0)
+}
+
+// Whether the wait of a thumb and a character that came a lag later, at most that of a thumb alone, is below y. Only a thumb
+// that was held longer than it waits alone asks for that wait itself.
+pub fn thumb_first_wait_below(s: Settings, x: Lag, y: Lag) -> bool
+    ensures { λ r. ⌜ r ≡ ltb (Numbers.FL s (lag-at-most (min (x .0) (Numbers.B s)))) (y .0) ⌝ }
+{
+    if thumb_wait_below(s, x) {
+        return share_below(bounded(thumb_wait(s)), s.l, rest(s.l), y.0);
+    }
+    share_below(bounded(x), s.l, rest(s.l), y.0)
 }

@@ -1,4 +1,5 @@
 -- `engine::accepted` meets its contract.
+use Rattle.engine.proofs.FormNotAsked.{formed-one-event}
 use Rattle.engine.proofs.accepted.Statement.{statement}
 use Rattle.engine.proofs.accepted.Tie as tie
 
@@ -6,10 +7,11 @@ pub accepted-spec : {M : Type 1} → statement M
 accepted-spec =
     tie.close
     (tie.spec
-    (λ c κs. c .pre)
+    (λ c κs. tt)
     (λ c κs. tt)
     (λ c.
-    let d = c .before .before .carry-out .ensures in
+    let at-carry-out = c .before .before in
+    let d = rw (formed-one-event _ _ _ (at-carry-out .before .pre)) at (at-carry-out .carry-out .ensures) in
     let sent = c .sent .ensures in
     record {
       answer = rw (sent .list, d .same-items, d .same-machine);

@@ -1,5 +1,4 @@
 -- `engine::carry_out` meets its contract.
-use Rattle.deadlines.proofs.Formed.{well-formed-deadline}
 use Rattle.engine.proofs.carry_out.Statement.{statement}
 use Rattle.engine.proofs.carry_out.Tie as tie
 
@@ -7,5 +6,5 @@ pub carry-out-spec : {M : Type 1} → statement M
 carry-out-spec =
     tie.close
     (tie.spec
-    (λ c κs. well-formed-deadline _ (c .before .pre))
+    (λ c κs. tt)
     (λ c. record { same-items = rw (← c .one-event .ensures); same-machine = rw (← c .one-event .ensures) }))

@@ -7,16 +7,16 @@ judge-stamp-spec =
     tie.close
     (tie.spec
     (λ c κs. tt)
-    (λ c. rw (← c .before .before2 .ensures, c .if1 .taken))
+    (λ c i. rw (← c .before .before2 .ensures, c .if1 .taken))
     (λ c κs. tt)
-    (λ c.
+    (λ c i.
     rw (
       ← c .before .before .before .before2 .ensures,
       c .before .before .if1 .left,
       ← c .before .before3 .ensures,
       c .if2 .taken,
     ))
-    (λ c.
+    (λ c i.
     rw (
       ← c .before .before .before .before2 .ensures,
       c .before .before .if1 .left,

@@ -12,13 +12,13 @@ one-event-spec =
     (λ c κs. tt)
     (λ c κs. tt)
     (λ c.
-    let d = c .before .before .before in
+    let at-if = c .before .before in
     rw (
-      late-first _ _ _ _ (sym (rw (d .before .pre) at (d .is-due .ensures)) ∙ c .before .before .if1 .taken),
+      late-first _ _ _ _ (sym (at-if .before .is-due .ensures) ∙ at-if .if1 .taken),
       ← c .before .late .ensures,
       ← c .in-s1 .ensures,
     ))
     (λ c κs. tt)
     (λ c.
-    let d = c .before .before in
-    rw (not-late _ _ _ _ (sym (rw (d .before .pre) at (d .is-due .ensures)) ∙ c .before .if1 .left), ← c .act .ensures)))
+    let at-if = c .before in
+    rw (not-late _ _ _ _ (sym (at-if .before .is-due .ensures) ∙ at-if .if1 .left), ← c .act .ensures)))

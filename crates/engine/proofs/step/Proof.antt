@@ -1,8 +1,6 @@
 -- `engine::step` meets its contract.
-use mathlib.Core.Path.{sym, ap, _∙_}
-use borrow.Author.Needs.{needs}
+use borrow.Author.Tests.{eq-eqb, ne-eqb}
 use Rattle.rules.specs.GivenBack.{step}
-use Rattle.engine.specs.Views.{judged}
 use Rattle.engine.proofs.Laws.{accepts-well-formed}
 use Rattle.engine.proofs.step.Statement.{statement}
 use Rattle.engine.proofs.step.Tie as tie
@@ -13,9 +11,11 @@ step-spec =
     tie.close
     (tie.spec
     (λ c κs. tt)
-    (λ c. search needs)
     (λ c κs. tt)
-    (λ c. search needs)
-    (λ c κs. accepts-well-formed _ _ _ (sym (c .before .before .before .judge .ensures) ∙ ap judged (c .before .meant .given .1)))
-    (λ c. rw (← c .before .before .before .before .judge .ensures, c .before .before .number .given .1) (c .refused .ensures))
-    (λ c. rw (← c .before .before .before .before .judge .ensures, c .before .before .meant .given .1) (c .accepted .ensures)))
+    (λ c.
+    let at-if = c .before in
+    rw (← at-if .before .judge .ensures, ne-eqb _ 0 (at-if .if1 .taken)) (c .refused .ensures))
+    (λ c κs. accepts-well-formed _ _ _ _ (c .before .judge .ensures) (c .if1 .left))
+    (λ c.
+    let at-if = c .before in
+    rw (← at-if .before .judge .ensures, eq-eqb _ 0 (at-if .if1 .left)) (c .accepted .ensures)))

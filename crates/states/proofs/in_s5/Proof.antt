@@ -1,5 +1,6 @@
 -- `states::in_s5` meets its contract.
 use borrow.Author.Needs.{needs}
+use Rattle.states.proofs.Meant.{meant-1, meant-2, meant-3, meant-4, meant-5, meant-tick}
 use Rattle.states.proofs.in_s5.Statement.{statement}
 use Rattle.states.proofs.in_s5.Tie as tie
 
@@ -7,66 +8,70 @@ pub in-s5-spec : {M : Type 1} → statement M
 in-s5-spec =
     tie.close
     (tie.spec
-    (λ c. search needs)
-    (λ c κs. tt)
-    (λ c. search needs)
     (λ c κs. tt)
     (λ c κs. tt)
     (λ c κs. tt)
-    (λ c. search needs)
     (λ c κs. tt)
     (λ c κs. tt)
     (λ c κs. tt)
-    (λ c. search needs)
     (λ c κs. tt)
     (λ c κs. tt)
     (λ c κs. tt)
-    (λ c. search needs)
     (λ c κs. tt)
-    (λ c. search needs)
     (λ c κs. tt)
-    (λ c. rw (c .before .before .input .given .1, ← c .commits-chord .ensures))
+    (λ c κs. tt)
+    (λ c κs. tt)
+    (λ c κs. tt)
+    (λ c. rw (meant-1 _ _ (c .before .match .keys1), ← c .commits-chord .ensures))
     (λ c.
     rw (
-      c .before .before .before .before .input2 .given .1,
+      meant-2 _ _ (c .before .before .before .match .keys2),
       ← c .before .before .same-key .ensures,
       c .before .if1 .taken,
       ← c .commits-chord2 .ensures,
     ))
     (λ c.
     rw (
-      c .before .before .before .before .input2 .given .1,
+      meant-2 _ _ (c .before .before .before .match .keys2),
       ← c .before .before .same-key .ensures,
       c .before .if1 .left,
       ← c .goes-to .ensures,
     ))
     (λ c.
     rw (
-      c .before .before .before .before .input3 .given .1,
+      meant-3 _ _ (c .before .before .before .before .match .keys3),
+      ← c .before .before .before .thumb-of .ensures,
       ← c .before .before .same-thumb .ensures,
       c .before .if2 .taken,
       ← c .goes-to2 .ensures,
     ))
     (λ c.
     rw (
-      c .before .before .before .before .input3 .given .1,
+      meant-3 _ _ (c .before .before .before .before .match .keys3),
+      ← c .before .before .before .thumb-of .ensures,
       ← c .before .before .same-thumb .ensures,
       c .before .if2 .left,
       ← c .thumb-down-in-s5 .ensures,
     ))
     (λ c.
     rw (
-      c .before .before .before .before .input4 .given .1,
+      meant-4 _ _ (c .before .before .before .before .match .keys4),
+      ← c .before .before .before .thumb-of2 .ensures,
       ← c .before .before .same-thumb2 .ensures,
       c .before .if3 .taken,
       ← c .thumb-up-in-s5 .ensures,
     ))
     (λ c.
     rw (
-      c .before .before .before .before .input4 .given .1,
+      meant-4 _ _ (c .before .before .before .before .match .keys4),
+      ← c .before .before .before .thumb-of2 .ensures,
       ← c .before .before .same-thumb2 .ensures,
       c .before .if3 .left,
       ← c .goes-to3 .ensures,
     ))
-    (λ c. rw (c .before .enum-told .given .1, ← c .commits-chord3 .ensures))
-    (λ c. rw (c .before .enum-told2 .given .1, ← c .goes-to4 .ensures)))
+    (λ c. rw (meant-5 _ _ (c .before .match .keys5), ← c .commits-chord3 .ensures))
+    (λ c.
+    rw (
+      meant-tick _ _ (c .before .match .rest),
+      ← c .goes-to4 .ensures,
+    )))

@@ -18,5 +18,5 @@ share-spec =
     (λ c. search needs)
     (λ c. omega (arith, product (c .before .pre) (c .before .fits .n .fits)))
     (λ c. omega (arith, product (c .before .pre) (c .before .fits .n .fits)))
-    (λ c. search needs)
-    (λ c. search needs))
+    (λ c κs. (omega (arith, product (c .before .pre) (c .before .fits .n .fits)), (search needs, search needs)))
+    (λ c. c .quotient .ensures))

@@ -1,0 +1,19 @@
+-- `engine::take_formed` meets its contract.
+use borrow.Author.Tests.{eq-eqb, ne-eqb}
+use Rattle.engine.specs.FormNotAsked.{take-formed}
+use Rattle.engine.proofs.take_formed.Statement.{statement}
+use Rattle.engine.proofs.take_formed.Tie as tie
+
+pub take-formed-spec : {M : Type 1} → statement M
+unfolding take-formed
+take-formed-spec =
+    tie.close
+    (tie.spec
+    (λ c κs. tt)
+    (λ c. rw (← c .before .judge-event .ensures, ne-eqb _ 0 (c .if1 .taken)))
+    (λ c κs. tt)
+    (λ c.
+    let at-carry-out = c .before in
+    let at-if = at-carry-out .before in
+    let d = at-carry-out .carry-out .ensures in
+    rw (← at-if .before .judge-event .ensures, eq-eqb _ 0 (at-if .if1 .left), d .same-items, d .same-machine)))
