@@ -1,10 +1,11 @@
-// Standard input, read to its end into a lent buffer. errno is never looked at here: it means something only after `Failed`.
+// Standard input: one read at a time, or read to its end, into a lent buffer. errno is never looked at here: it means something only
+// after `Failed`.
 use libc::STDIN_FILENO;
 ghost use lib.ListN.{length};
 ghost use Rattle.input.specs.Reads.{Taken, Within};
 
 // What one read gave.
-enum Piece {
+pub enum Piece {
     // So many bytes, at least one, at the buffer's front.
     Bytes(usize),
     End,
@@ -21,8 +22,8 @@ pub enum Input {
     Failed,
 }
 
-// One read into a buffer that is not empty.
-fn read_piece(buf: &mut [u8]) -> Piece
+// One read. It brings what is there, so that a slow line is not waited for; into a buffer of no bytes it brings nothing, as at the end.
+pub fn read_piece(buf: &mut [u8]) -> Piece
     ensures { λ r. ⌜ Taken (length (now (buf .entry))) r ⌝ }
 {
     let got = libc::read(STDIN_FILENO, buf);

@@ -1,53 +1,93 @@
 // Reads a log from standard input and prints its line, and what waits or was refused.
 //
-// What a refusal means is said on standard error. Where standard input can't be read to its end, nothing is printed, and standard
-// error says why: what was read so far is not the log. Where standard output can't be written, standard error says why, and some of
-// the text may have been written.
+// The log is read through one buffer, filled again and again, and what a piece brings is printed before the next is read. So a log of
+// any length takes the same memory, and a slow line is printed as it comes. What a refusal means is said on standard error. Where
+// standard input can't be read to its end, standard error says why, and the line as far as it was printed stands, with no status below
+// it: what was read is not the log. Where standard output can't be written, standard error says why, and some of the text may have been
+// written.
 mod messages;
 
-use input::Input;
+use input::Piece;
 use libc::STDERR_FILENO;
 use libc::STDOUT_FILENO;
-use report::Answer;
-use report::LONGEST_LOG;
-use report::ROOM;
-ghost use Prim.Native.Nat.{ℕ, _≤_};
-ghost use mathlib.Core.List.{List, _∷_, _++_};
+use pieces::Reader;
+use pieces::Told;
+use report::BUFFER;
+use report::Ending;
+use report::Shown;
+use report::TEXT_ROOM;
+ghost use Prim.Native.Nat.{_≤_};
 ghost use mathlib.Core.Path.{_≡_};
 ghost use lib.ListN.{length};
-ghost use Rattle.report.specs.Printed.{longest-log, printed-room, Reports, Within, Text-within};
+ghost use Rattle.pieces.specs.Views.{reader-of};
+ghost use Rattle.report.specs.Played.{buffer, text-room, played};
+ghost use Rattle.report.specs.HoweverPlayed.{Reached};
+ghost use Rattle.play.specs.Turns.{Has-text, Has-end, Turns, Leaves};
 
-// Room for every log that is not too long.
-fn log_buffer() -> [u8; LONGEST_LOG]
-    ensures { λ r. ⌜ longest-log ≡ length r ⌝ }
-{
-    [0; LONGEST_LOG]
+// What is left to do after a piece.
+enum Turn {
+    // Its text was printed, and the log goes on.
+    More(Reader),
+    // Its text was printed, and a record was refused: nothing behind it is read.
+    Refused(Reader),
+    // Standard output could not be written.
+    Failed,
 }
 
-// Room for what is printed of any log.
-fn text_buffer() -> [u8; ROOM]
-    ensures { λ r. ⌜ printed-room ≡ length r ⌝ }
+// The buffer through which the log is read.
+fn log_buffer() -> [u8; BUFFER]
+    ensures { λ r. ⌜ buffer ≡ length r ⌝ }
 {
-    [0; ROOM]
+    [0; BUFFER]
 }
 
-// What is printed of a log that begins with these bytes and has more.
-fn report_longer(start: &[u8], out: &mut [u8]) -> Answer
-    requires { ⌜ longest-log ≤ length (now start) ⌝ }
-    ensures { λ r. ⌜ ((b : ℕ) (more : List ℕ) → Reports (now (start .entry) ++ (b ∷ more)) (now (out .entry)) r (now (out .exit))) ⌝ }
-    ensures { λ r. ⌜ Within (length (now (out .entry))) r ⌝ }
+// Room for the text of any piece, and of the end.
+fn text_buffer() -> [u8; TEXT_ROOM]
+    ensures { λ r. ⌜ text-room ≡ length r ⌝ }
 {
-    report::too_long(out)
+    [0; TEXT_ROOM]
 }
 
-// Prints the text that was answered, and what a refusal means.
-fn show(answer: Answer, out: &[u8])
-    requires { ⌜ Text-within (length (now out)) answer ⌝ }
+// Prints the text of a piece.
+fn print_text(shown: Shown, out: &[u8]) -> Turn
+    requires { ⌜ Has-text (length (now out)) shown ⌝ }
+    ensures { λ r. ⌜ Leaves shown r ⌝ }
 {
-    match answer {
+    match shown {
         // There is room: `text_buffer`.
-        Answer::Full => {}
-        Answer::Text {
+        Shown::Unread => Turn::Failed,
+        Shown::Text { next, bytes } => {
+            if io::write_all(STDOUT_FILENO, &out[..bytes]) {
+                let told = next.told;
+                return match told {
+                    Told::Going => Turn::More(next),
+                    Told::For(_) => Turn::Refused(next),
+                };
+            }
+            os::fail(b"play: standard output");
+            Turn::Failed
+        }
+    }
+}
+
+// Reads a piece and prints the text that it brings.
+fn play_piece(reader: Reader, piece: &[u8], out: &mut [u8]) -> Turn
+    requires { ⌜ length (now piece) ≤ buffer ⌝ }
+    requires { ⌜ text-room ≤ length (now out) ⌝ }
+    ensures { λ r. ⌜ Turns (played (reader-of reader) (now (piece .entry)) .reader) r ⌝ }
+{
+    let shown = report::show_piece(reader, piece, out);
+    print_text(shown, out)
+}
+
+// Prints what follows the line, and what a refusal means.
+fn print_end(ending: Ending, out: &[u8])
+    requires { ⌜ Has-end (length (now out)) ending ⌝ }
+{
+    match ending {
+        // There is room: `text_buffer`.
+        Ending::Full => {}
+        Ending::Text {
             bytes,
             number,
             offset,
@@ -61,21 +101,47 @@ fn show(answer: Answer, out: &[u8])
     }
 }
 
-// Reads a log and prints what it gives.
+// The log has ended, or was refused.
+fn finish(reader: Reader, out: &mut [u8])
+    requires { ⌜ Reached (reader-of reader) ⌝ }
+    requires { ⌜ text-room ≤ length (now out) ⌝ }
+{
+    let ending = report::show_end(reader, out);
+    print_end(ending, out);
+}
+
+// Reads a log piece by piece to its end. It comes to one: each piece has a byte at least, and the reader counts them.
+fn play_log(log: &mut [u8], out: &mut [u8])
+    requires { ⌜ buffer ≡ length (now log) ⌝ }
+    requires { ⌜ text-room ≡ length (now out) ⌝ }
+{
+    let mut reader = pieces::fresh();
+    loop {
+        match input::read_piece(log) {
+            Piece::Bytes(n) => match play_piece(reader, &log[..n], out) {
+                Turn::More(next) => reader = next,
+                Turn::Refused(last) => {
+                    finish(last, out);
+                    return;
+                }
+                Turn::Failed => return,
+            },
+            Piece::End => {
+                finish(reader, out);
+                return;
+            }
+            Piece::Failed => {
+                os::fail(b"play: standard input");
+                return;
+            }
+        }
+    }
+}
+
 fn run() {
     let mut log = log_buffer();
     let mut out = text_buffer();
-    match input::read(&mut log) {
-        Input::Whole(n) => {
-            let answer = report::report(&log[..n], &mut out);
-            show(answer, &out);
-        }
-        Input::Longer => {
-            let answer = report_longer(&log, &mut out);
-            show(answer, &out);
-        }
-        Input::Failed => os::fail(b"play: standard input"),
-    }
+    play_log(&mut log, &mut out);
 }
 
 // Whether the one argument asks how to use the program.

@@ -1,5 +1,6 @@
 // What the program says besides the text: how to use it, and what a refusal means.
 use libc::STDERR_FILENO;
+ghost use mathlib.Core.Logic.{_≢_};
 
 pub fn print_usage(fd: i32) {
     io::write_all(fd, b"usage: play < LOG\n");
@@ -9,7 +10,7 @@ pub fn print_usage(fd: i32) {
     );
     io::write_all(
         fd,
-        b"where standard error says what the refusal means. A log has at most 65536 bytes.\n",
+        b"where standard error says what the refusal means. The line is printed as the log arrives.\n",
     );
 }
 
@@ -32,13 +33,18 @@ fn meaning(number: u32) {
     ;
 }
 
-// What a log's number means, on standard error. Nothing for 0.
-pub fn explain(number: u32, offset: usize) {
+// What a log's number means, on standard error. Nothing for 0. The reader is well formed and has room, so 2 and 8 don't come.
+pub fn explain(number: u32, offset: usize)
+    requires { ⌜ (number ≢ 2) × (number ≢ 8) ⌝ }
+{
     if number == 0 {
         return;
     }
     if number == 9 {
-        io::write_all(STDERR_FILENO, b"play: the log is longer than 65536 bytes\n");
+        io::write_all(
+            STDERR_FILENO,
+            b"play: the log is longer than 1000000000000 bytes\n",
+        );
         return;
     }
     io::write_all(STDERR_FILENO, b"play: record at byte ");

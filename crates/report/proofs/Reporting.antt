@@ -1,14 +1,15 @@
--- What is printed of a log, put together from its parts, and the room that it takes.
-use Prim.Native.Nat.{ℕ, _≤_, _<_}
+-- What the functions on a piece and on the end store, put together from its parts, and the room that it takes.
+use Prim.Native.Nat.{ℕ, _+_, _-_, _*_, _≤_, _<_}
 use native.Mathlib.Omega.{arith}
 use native.Mathlib.Nat.{zero-add}
-use borrow.Author.Tests.{lt-ltb, le-ltb, le-leb, lt-leb}
-use mathlib.Core.Bool.{true, false}
+use borrow.Author.Tests.{le-leb, lt-leb, leb-true, eqb-false}
+use mathlib.Core.Bool.{Bool, true, false, _&&_, not, and-false, and-eq-true-iff}
+use mathlib.Core.Logic.{_≢_}
 use mathlib.Core.Path.{_≡_, refl, sym, ap, _∙_}
 use mathlib.Core.List.{List, [], _∷_, _++_}
 use mathlib.Core.Option.{Option, none, some, Option·some-injective, Option·none-ne-some}
-use lib.Dec.{ltb, leb}
-use lib.ListN.{length, take}
+use lib.Dec.{leb, eqb}
+use lib.ListN.{length, take, length-append, length-drop}
 use lib.Seq.{take-append-seam}
 use Rattle.rules.specs.Sequences.{waiting}
 use Rattle.rules.specs.declared.Resting.{Resting}
@@ -16,16 +17,30 @@ use Rattle.rules.specs.declared.Resting.the-variants.{S1, S2, S3, S4, S5, S6}
 use Rattle.rules.specs.declared.Machine.{Machine}
 use Rattle.runs.specs.Filled.{filled, Stored}
 use Rattle.runs.proofs.Filling.{stored-both}
-use Rattle.text.specs.Text.{ascii, text, Encodes}
+use Rattle.text.specs.Text.{text, Encodes}
 use Rattle.text.specs.declared.Encoded.the-variants as encoded-as
 use Rattle.text.proofs.Signs.{text-short}
-use Rattle.keylog.specs.Reader.{read, waiting-of, answer-of}
-use Rattle.keylog.specs.Runs.{as-it-is, encoded, Reads}
+use Rattle.keylog.specs.Reader.{number-of, waiting-of}
+use Rattle.keylog.specs.Runs.{as-it-is, encoded}
+use Rattle.keylog.specs.Pieces as pieces
+use Rattle.keylog.specs.Pieces.{longest-log, formed, told-formed, Formed, answer, Given, piece, end}
 use Rattle.keylog.specs.declared.LogAnswer.{LogAnswer}
-use Rattle.keylog.specs.Facts.{Enough}
-use Rattle.keylog.proofs.Room.{enough-room}
-use Rattle.report.specs.Printed.{longest-log, room, printed-room, line-end, status, status-of, printed, number-of, offset-of, Reports}
-use Rattle.report.specs.declared.Answer.the-variants.{Full, Text}
+use Rattle.keylog.proofs.PieceFacts.{piece-facts}
+use Rattle.keylog.proofs.ReaderFormed.{formed-facts}
+use Rattle.pieces.specs.Views.{reader-of, not-formed, Feeds, Ends}
+use Rattle.pieces.specs.declared.reader.Reader.{Reader}
+use Rattle.pieces.specs.declared.reader.Fed.{Fed}
+use Rattle.report.specs.Printed.{line-end, status, status-of, closing}
+use Rattle.report.specs.Played.{buffer, word-room, text-room, played, brought, last, fits, Shows, Closes}
+use Rattle.report.specs.declared.Shown as Shown
+use Rattle.report.specs.declared.Ending as Ending
+use Rattle.report.specs.HoweverPlayed.{Reached}
+use Rattle.report.proofs.Sequences.{reached-sound}
+use Rattle.report.proofs.HoweverPlayed.{last-formed, end-eight}
+
+last-unformed : (r : pieces.Reader) → formed r ≡ false → last r ≡ not-formed
+unfolding last
+last-unformed r f = rw f
 
 -- what is stored at a run's front fills it
 stored-filled : (new run : List ℕ) (n : ℕ) (after : List ℕ) → Stored 0 new run n after → (n ≡ length new) × (after ≡ filled new run)
@@ -54,6 +69,67 @@ unfolding encoded
 plain [] = refl
 plain (w ∷ ws) = rw (plain ws)
 
+-- what `feed` gave, as a definition gives it
+record Gave (reader : Reader) (words : List ℕ) (fed : Fed) (after : List ℕ) (g : Given) : Type 0 where
+  next : reader-of (fed .reader) ≡ g .reader
+  counted : fed .reader .words ≡ reader .words + length (g .words)
+  left : after ≡ filled (g .words) words
+
+gave : (reader : Reader) (bytes words : List ℕ) (fed : Fed) (after : List ℕ) (t : Bool) → word-room ≡ length words
+    → formed (reader-of reader) ≡ t → Feeds as-it-is (length words) reader bytes words t fed after
+    → Gave reader words fed after (played (reader-of reader) bytes)
+unfolding played
+gave reader bytes words fed after true long f (s, w) =
+    let next : reader-of (fed .reader) ≡ piece word-room (reader-of reader) bytes .reader = rw long (s .reader) in
+    rw f
+    record {
+      next = next;
+      counted = ap (λ r. r .words) next ∙ piece-facts .total word-room (reader-of reader) bytes;
+      left = w ∙ rw (← long, plain);
+    }
+gave reader bytes words fed after false long f (s, w) = rw (f, s) record { next = refl; counted = omega arith; left = w }
+
+-- What follows where a piece was read into a run of words: n words are new, they stand at the run's front, and their text is what is shown.
+pub record Read-piece (reader : Reader) (bytes : List ℕ) (fed : Fed) (after : List ℕ) (n : ℕ) : Type 0 where
+  pub grown : reader .words ≤ fed .reader .words
+  pub few : n ≤ length after
+  pub short : length (text (take n after)) ≤ text-room
+  pub shows : (run : List ℕ) (k : ℕ) (out : List ℕ) → length bytes ≤ buffer → text-room ≤ length run
+      → Stored 0 (text (take n after)) run k out
+      → Shows (reader-of reader) bytes run (Shown.the-variants.Text (fed .reader) k) out
+
+pub read-piece : (reader : Reader) (bytes words : List ℕ) (fed : Fed) (after : List ℕ) → word-room ≡ length words
+    → Feeds as-it-is (length words) reader bytes words (formed (reader-of reader)) fed after → length after ≡ length words
+    → Read-piece reader bytes fed after (fed .reader .words - reader .words)
+read-piece reader bytes words fed after long h kept =
+    let r = reader-of reader in
+    let ws : List ℕ = played r bytes .words in
+    let g : Gave reader words fed after (played r bytes) = gave reader bytes words fed after (formed r) long refl h in
+    let n : fed .reader .words - reader .words ≡ length ws = omega (arith, g .counted) in
+    let few : length ws ≤ length after = omega (arith, kept, simp (length-append, length-drop) at (ap length (g .left))) in
+    let the-words : take (fed .reader .words - reader .words) after ≡ ws = rw (n, g .left, take-append-seam) in
+    record {
+      grown = omega (arith, g .counted);
+      few = rw n few;
+      short = rw the-words (omega (arith, text-short ws, kept));
+      shows = λ run k out short room s.
+          let t : fits bytes run ≡ true = rw (le-leb (length bytes) buffer short, le-leb text-room (length run) room) in
+          let f = stored-filled (brought r bytes) run k out (rw the-words at s) in
+          record { answered = rw (t, g .next, f .0); written = rw (t, f .1) };
+    }
+
+-- and where there is not
+pub too-long-piece : (r : pieces.Reader) (bytes run : List ℕ) → buffer < length bytes → Shows r bytes run Shown.the-variants.Unread run
+too-long-piece r bytes run h =
+    let t : fits bytes run ≡ false = rw (lt-leb (length bytes) buffer h) in
+    record { answered = rw t; written = rw t }
+
+pub no-room : (r : pieces.Reader) (bytes run : List ℕ) → length run < text-room → Shows r bytes run Shown.the-variants.Unread run
+no-room r bytes run h =
+    let t : fits bytes run ≡ false = rw (lt-leb text-room (length run) h, and-false) in
+    record { answered = rw t; written = rw t }
+
+-- The numbers that the end answers are small.
 few-wait : (x : Resting) → length (waiting x) ≤ 1
 few-wait S1 = omega arith
 few-wait (S2 M m) = omega arith
@@ -66,75 +142,73 @@ few-waiting : (m : Option Machine) → waiting-of m ≤ 1
 few-waiting none = omega arith
 few-waiting (some m) = few-wait (m .resting)
 
--- A log that is not too long, read into a run of words.
-module _ (log words : List ℕ) (a : LogAnswer) (after : List ℕ) (short : length log ≤ longest-log) (long : room ≡ length words)
-    (r : Reads as-it-is (length words) log words a after) where
-  read-here : Reads as-it-is room log words a after
-  read-here = rw long r
+small-told : (f : Option ℕ) (count : ℕ) → told-formed f count ≡ true → number-of f ≤ 9
+small-told none count e = omega arith
+small-told (some n) count e =
+    let both = and-eq-true-iff (leb n 9 && not (eqb n 2)) (eqb count 0) .0 e in
+    leb-true n 9 (and-eq-true-iff (leb n 9) (not (eqb n 2)) .0 (both .0) .0)
 
-  enough : Enough (read room log) (length log)
-  enough = enough-room room log (omega arith)
+-- and never 2, which is said only of a reader that is not well formed
+never-2 : (f : Option ℕ) (count : ℕ) → told-formed f count ≡ true → number-of f ≢ 2
+never-2 none count e = λ z. omega arith
+never-2 (some n) count e =
+    let both = and-eq-true-iff (leb n 9 && not (eqb n 2)) (eqb count 0) .0 e in
+    let differs : not (eqb n 2) ≡ true = and-eq-true-iff (leb n 9) (not (eqb n 2)) .0 (both .0) .1 in
+    eqb-false n 2 (by (eqb n 2) differs)
+  where
+    by : (t : Bool) → not t ≡ true → t ≡ false
+    by true h = sym h
+    by false h = refl
 
-  pub counted : a .words ≡ length (read room log .words)
-  counted = ap (λ (x : LogAnswer). x .words) (read-here .answered)
+-- the numbers that the program can print
+pub reached-number : (r : pieces.Reader) → Reached r → (last r .number ≢ 2) × (last r .number ≢ 8)
+reached-number r d =
+    let s = reached-sound r d in
+    let ended = formed-facts (end r) (piece-facts .end-keeps r (s .well)) in
+    rw (last-formed r (s .well)) (never-2 (end r .told) (length (end r .pending)) (ended .told), end-eight r (s .eight))
 
-  pub the-words : take (a .words) after ≡ read room log .words
-  the-words = rw (counted, read-here .left, plain, take-append-seam)
+abbrev pub Small : LogAnswer → Type 0
+Small a = (a .number < 10) × (a .waiting < 10) × (a .offset < 10000000000000)
 
-  pub few-words : a .words ≤ 10082
-  few-words = omega (arith, counted, enough .words)
+small-answer : (r : pieces.Reader) → Formed r → Small (answer r)
+small-answer r f = (
+  omega (arith, small-told (r .told) (length (r .pending)) (f .told)),
+  omega (arith, few-waiting (r .machine)),
+  omega (arith, f .bytes),
+)
 
-  pub line-short : length (text (take (a .words) after)) ≤ 30246
-  line-short = rw the-words (omega (arith, text-short (read room log .words), counted, few-words))
+pub ended : (reader : Reader) (fed : Fed) → Ends reader (formed (reader-of reader)) fed
+    → (fed .answer ≡ last (reader-of reader)) × Small (fed .answer)
+ended reader fed h = by (formed (reader-of reader)) refl h
+  where
+    by : (t : Bool) → formed (reader-of reader) ≡ t → Ends reader t fed → (fed .answer ≡ last (reader-of reader)) × Small (fed .answer)
+    by true f s =
+        let r = reader-of reader in
+        let small : Small (answer (end r)) = small-answer (end r) (formed-facts (end r) (piece-facts .end-keeps r f)) in
+        (s .answer ∙ sym (last-formed r f), rw (s .answer) small)
+    by false f s = rw s (sym (last-unformed (reader-of reader) f), (omega arith, omega arith, omega arith))
 
-  pub small : (a .number < 10) × (a .waiting < 10) × (a .offset < 100000)
-  small =
-      let e : a ≡ answer-of (read room log) = read-here .answered in
-      (rw e (omega (arith, enough .number)), rw e (omega (arith, few-waiting (read room log .machine))), rw e (omega (arith, enough .offset)))
+-- the three parts of what follows the line
+pub closing-stored : (a : LogAnswer) (run : List ℕ) (n1 : ℕ) (m1 : List ℕ) (n2 : ℕ) (m2 : List ℕ) (n3 : ℕ) (m3 : List ℕ)
+    → 40 ≤ length run
+    → Stored 0 line-end run n1 m1
+    → Stored n1 (status (a .number) (a .waiting) (a .offset)) m1 n2 m2
+    → Stored n2 line-end m2 n3 m3
+    → Stored 0 (closing a) run n3 m3
+unfolding closing
+closing-stored a run n1 m1 n2 m2 n3 m3 long s t u =
+    stored-both 0 (line-end ++ status-of a) line-end run n2 m2 n3 m3 (omega arith)
+    (stored-both 0 line-end (status-of a) run n1 m1 n2 m2 (omega arith) s t) u
 
-  -- the four parts
-  pub all-stored : (run : List ℕ) (n1 : ℕ) (m1 : List ℕ) (n2 : ℕ) (m2 : List ℕ) (n3 : ℕ) (m3 : List ℕ) (n4 : ℕ) (m4 : List ℕ)
-      → Stored 0 (text (take (a .words) after)) run n1 m1
-      → Stored n1 line-end m1 n2 m2
-      → Stored n2 (status (a .number) (a .waiting) (a .offset)) m2 n3 m3
-      → Stored n3 line-end m3 n4 m4
-      → Stored 0 (printed log) run n4 m4
-  unfolding printed
-  all-stored run n1 m1 n2 m2 n3 m3 n4 m4 s t u v =
-      let line : List ℕ = text (read room log .words) in
-      let last : List ℕ = status-of (answer-of (read room log)) in
-      let w : Stored n2 last m2 n3 m3 = rw (read-here .answered) at u in
-      rw (le-ltb longest-log (length log) short)
-      (stored-both 0 (line ++ line-end ++ last) line-end run n3 m3 n4 m4 (omega arith)
-      (stored-both 0 (line ++ line-end) last run n2 m2 n3 m3 (omega arith)
-      (stored-both 0 line line-end run n1 m1 n2 m2 (omega arith) (rw the-words at s) t) w) v)
+-- the contract of `show_end`
+pub no-end-room : (r : pieces.Reader) (run : List ℕ) → length run < text-room → Closes r run Ending.the-variants.Full run
+no-end-room r run h =
+    let t : leb text-room (length run) ≡ false = lt-leb text-room (length run) h in
+    record { answered = rw t; written = rw t }
 
-  pub number-told : a .number ≡ number-of log
-  unfolding number-of
-  number-told = rw (le-ltb longest-log (length log) short) (ap (λ (x : LogAnswer). x .number) (read-here .answered))
-
-  pub offset-told : a .offset ≡ offset-of log
-  unfolding offset-of
-  offset-told = rw (le-ltb longest-log (length log) short) (ap (λ (x : LogAnswer). x .offset) (read-here .answered))
-
--- the contract of `report`
-module _ (log run : List ℕ) where
-  pub too-short : length run < printed-room → Reports log run Full run
-  too-short h =
-      let t : leb printed-room (length run) ≡ false = lt-leb printed-room (length run) h in
-      record { answered = rw t; written = rw t }
-
-  module _ (h : printed-room ≤ length run) (n : ℕ) (after : List ℕ) where
-    pub reported : (number offset : ℕ) → Stored 0 (printed log) run n after → number ≡ number-of log → offset ≡ offset-of log
-        → Reports log run (Text n number offset) after
-    reported number offset s e f =
-        let t : leb printed-room (length run) ≡ true = le-leb printed-room (length run) h in
-        let g : (n ≡ length (printed log)) × (after ≡ filled (printed log) run) = stored-filled (printed log) run n after s in
-        record { answered = rw (t, g .0, e, f); written = rw (t, g .1) }
-
-    pub too-long : longest-log < length log → Stored 0 (ascii "refused 9 at 65536" ++ line-end) run n after
-        → Reports log run (Text n 9 longest-log) after
-    unfolding printed number-of offset-of
-    too-long l s =
-        let t : ltb longest-log (length log) ≡ true = lt-ltb longest-log (length log) l in
-        reported 9 longest-log (rw t s) (rw t) (rw t)
+pub end-shown : (r : pieces.Reader) (run : List ℕ) (a : LogAnswer) (n : ℕ) (after : List ℕ) → text-room ≤ length run → a ≡ last r
+    → Stored 0 (closing a) run n after → Closes r run (Ending.the-variants.Text n (a .number) (a .offset)) after
+end-shown r run a n after room e s =
+    let t : leb text-room (length run) ≡ true = le-leb text-room (length run) room in
+    let f = stored-filled (closing a) run n after s in
+    record { answered = rw (t, ← e, f .0); written = rw (t, ← e, f .1) }

@@ -11,7 +11,7 @@ use Rattle.text.specs.Text.{ascii}
 use Rattle.report.specs.Decimal.{decimal}
 use Rattle.report.specs.Printed.{status}
 
-module _ (number waiting offset at : ℕ) (run : List ℕ) (fits : at + 32 ≤ length run) where
+module _ (number waiting offset at : ℕ) (run : List ℕ) (fits : at + 38 ≤ length run) where
   pub waiting-status : (next : ℕ) (mid : List ℕ) (last : ℕ) (after : List ℕ)
       → number ≡ 0
       → Stored at (ascii "waiting ") run next mid

@@ -1,23 +1,35 @@
-// What the program prints for a log, as text in a lent run.
+// What the program prints while a log arrives in pieces, as text in a lent run: a piece's words, and at the end what follows the line.
+use keylog::LogAnswer;
+use pieces::Reader;
 use text::Encoded;
-ghost use Prim.Native.Nat.{ℕ, _+_, _≤_, _<_};
+ghost use Prim.Native.Nat.{_+_, _≤_, _<_};
 ghost use mathlib.Core.Path.{_≡_};
-ghost use mathlib.Core.List.{List};
 ghost use lib.ListN.{length};
 ghost use Rattle.runs.specs.Filled.{Stored};
 ghost use Rattle.text.specs.Text as texts;
+ghost use Rattle.pieces.specs.Views.{reader-of};
 ghost use Rattle.report.specs.Decimal.{decimal};
-ghost use Rattle.report.specs.Printed.{longest-log, room, printed-room, status, printed, Reports, Within};
+ghost use Rattle.report.specs.Printed.{status, closing};
+ghost use Rattle.report.specs.Played.{buffer, word-room, text-room, last, Shows, Shown-within, Closes, Ending-within};
 
-// The longest log that the program reads.
-pub const LONGEST_LOG: usize = 65536;
-// A run of this length has room for what is printed of any log.
-pub const ROOM: usize = 32768;
-// A run of this length has room for the words of any log that is not too long.
-const WORD_ROOM: usize = 10083;
+// The longest piece: what the program's buffer holds.
+pub const BUFFER: usize = 65536;
+// A run of this length has room for the text of a piece, and for what follows the line.
+pub const TEXT_ROOM: usize = 30252;
+// A run of this length has room for the words of a piece.
+const WORD_ROOM: usize = 10084;
 
-pub enum Answer {
-    // The run is shorter than `ROOM`, and nothing was written.
+// What a piece gave.
+pub enum Shown {
+    // The piece is longer than `BUFFER`, or the run is shorter than `TEXT_ROOM`: nothing was read, and nothing was written.
+    Unread,
+    // The reader after the piece, and how many bytes of text were written.
+    Text { next: Reader, bytes: usize },
+}
+
+// What the end gave.
+pub enum Ending {
+    // The run is shorter than `TEXT_ROOM`, and nothing was written.
     Full,
     // The text was written, in so many bytes; the number and the offset are those of the log.
     Text {
@@ -28,7 +40,7 @@ pub enum Answer {
 }
 
 fn word_buffer() -> [u16; WORD_ROOM]
-    ensures { λ r. ⌜ room ≡ length r ⌝ }
+    ensures { λ r. ⌜ word-room ≡ length r ⌝ }
 {
     [0; WORD_ROOM]
 }
@@ -48,10 +60,10 @@ fn put_bytes(out: &mut [u8], at: usize, bytes: &[u8]) -> usize
 
 // A number's digits at a place where they fit.
 fn put_number(out: &mut [u8], at: usize, n: u64) -> usize
-    requires { ⌜ n < 100000 ⌝ }
-    requires { ⌜ at + 5 ≤ length (now out) ⌝ }
+    requires { ⌜ n < 10000000000000 ⌝ }
+    requires { ⌜ at + 13 ≤ length (now out) ⌝ }
     ensures { λ r. ⌜ Stored at (decimal n) (now (out .entry)) r (now (out .exit)) ⌝ }
-    ensures { λ r. ⌜ r ≤ at + 5 ⌝ }
+    ensures { λ r. ⌜ r ≤ at + 13 ⌝ }
 {
     let mut digits = [0u8; 20];
     let k = io::decimal(n, &mut digits);
@@ -60,10 +72,10 @@ fn put_number(out: &mut [u8], at: usize, n: u64) -> usize
 
 // `waiting N` or `refused N at OFFSET`, at a place where it fits.
 fn put_status(out: &mut [u8], at: usize, number: u64, waiting: u64, offset: u64) -> usize
-    requires { ⌜ (number < 10) × (waiting < 10) × (offset < 100000) ⌝ }
-    requires { ⌜ at + 32 ≤ length (now out) ⌝ }
+    requires { ⌜ (number < 10) × (waiting < 10) × (offset < 10000000000000) ⌝ }
+    requires { ⌜ at + 38 ≤ length (now out) ⌝ }
     ensures { λ r. ⌜ Stored at (status number waiting offset) (now (out .entry)) r (now (out .exit)) ⌝ }
-    ensures { λ r. ⌜ r ≤ at + 32 ⌝ }
+    ensures { λ r. ⌜ r ≤ at + 38 ⌝ }
 {
     if number == 0 {
         let behind = put_bytes(out, at, b"waiting ");
@@ -73,6 +85,24 @@ fn put_status(out: &mut [u8], at: usize, number: u64, waiting: u64, offset: u64)
     let second = put_number(out, first, number);
     let third = put_bytes(out, second, b" at ");
     put_number(out, third, offset)
+}
+
+// What follows the line, at the front of a run where it fits.
+fn put_closing(out: &mut [u8], answer: LogAnswer) -> usize
+    requires { ⌜ (answer .number < 10) × (answer .waiting < 10) × (answer .offset < 10000000000000) ⌝ }
+    requires { ⌜ 40 ≤ length (now out) ⌝ }
+    ensures { λ r. ⌜ Stored 0 (closing answer) (now (out .entry)) r (now (out .exit)) ⌝ }
+    ensures { λ r. ⌜ r ≤ 40 ⌝ }
+{
+    let first = put_bytes(out, 0, b"\n");
+    let second = put_status(
+        out,
+        first,
+        answer.number as u64,
+        answer.waiting as u64,
+        answer.offset as u64,
+    );
+    put_bytes(out, second, b"\n")
 }
 
 // The text of words at the front of a run where it fits. Answers the place behind it.
@@ -86,59 +116,60 @@ fn put_line(out: &mut [u8], words: &[u16]) -> usize
     }
 }
 
-// What is printed of a log that is not too long, where there is room.
-fn put_report(out: &mut [u8], log: &[u8]) -> Answer
-    requires { ⌜ length (now log) ≤ longest-log ⌝ }
-    requires { ⌜ printed-room ≤ length (now out) ⌝ }
-    ensures { λ r. ⌜ Reports (now (log .entry)) (now (out .entry)) r (now (out .exit)) ⌝ }
-    ensures { λ r. ⌜ Within (length (now (out .entry))) r ⌝ }
+// A piece that fits the buffer, read where there is room for its text.
+fn put_piece(reader: Reader, piece: &[u8], out: &mut [u8]) -> Shown
+    requires { ⌜ length (now piece) ≤ buffer ⌝ }
+    requires { ⌜ text-room ≤ length (now out) ⌝ }
+    ensures { λ r. ⌜ Shows (reader-of reader) (now (piece .entry)) (now (out .entry)) r (now (out .exit)) ⌝ }
+    ensures { λ r. ⌜ Shown-within (length (now (out .entry))) r ⌝ }
 {
     let mut words = word_buffer();
-    let read = keylog::read_log(log, &mut words);
-    let n = read.words;
-    let line = put_line(out, &words[..n]);
-    let next = put_bytes(out, line, b"\n");
-    let status = put_status(
-        out,
-        next,
-        read.number as u64,
-        read.waiting as u64,
-        read.offset as u64,
-    );
-    let behind = put_bytes(out, status, b"\n");
-    Answer::Text {
-        bytes: behind,
-        number: read.number,
-        offset: read.offset,
+    let fed = pieces::feed(reader, piece, &mut words);
+    let next = fed.reader;
+    let n = next.words - reader.words;
+    let bytes = put_line(out, &words[..n]);
+    Shown::Text {
+        next: next,
+        bytes: bytes,
     }
 }
 
-// What is printed of every log that is too long, at the front of a run of at least `ROOM` bytes.
-pub fn too_long(out: &mut [u8]) -> Answer
-    ensures { λ r. ⌜ ((log : List ℕ) → longest-log < length log → Reports log (now (out .entry)) r (now (out .exit))) ⌝ }
-    ensures { λ r. ⌜ Within (length (now (out .entry))) r ⌝ }
+// A piece of the log: the text that it brings, at the front of a run of at least `TEXT_ROOM` bytes.
+pub fn show_piece(reader: Reader, piece: &[u8], out: &mut [u8]) -> Shown
+    ensures { λ r. ⌜ Shows (reader-of reader) (now (piece .entry)) (now (out .entry)) r (now (out .exit)) ⌝ }
+    ensures { λ r. ⌜ Shown-within (length (now (out .entry))) r ⌝ }
 {
-    if out.len() < ROOM {
-        return Answer::Full;
+    if BUFFER < piece.len() {
+        return Shown::Unread;
     }
-    let behind = put_bytes(out, 0, b"refused 9 at 65536\n");
-    Answer::Text {
-        bytes: behind,
-        number: 9,
-        offset: LONGEST_LOG,
+    if out.len() < TEXT_ROOM {
+        return Shown::Unread;
     }
+    put_piece(reader, piece, out)
 }
 
-// What is printed of a log, at the front of a run of at least `ROOM` bytes.
-pub fn report(log: &[u8], out: &mut [u8]) -> Answer
-    ensures { λ r. ⌜ Reports (now (log .entry)) (now (out .entry)) r (now (out .exit)) ⌝ }
-    ensures { λ r. ⌜ Within (length (now (out .entry))) r ⌝ }
+// The answer at the end.
+fn answer_at_end(reader: Reader) -> LogAnswer
+    ensures { λ r. ⌜ r ≡ last (reader-of reader) ⌝ }
+    ensures { λ r. ⌜ (r .number < 10) × (r .waiting < 10) × (r .offset < 10000000000000) ⌝ }
 {
-    if LONGEST_LOG < log.len() {
-        return too_long(out);
+    let fed = pieces::end_log(reader);
+    fed.answer
+}
+
+// The log has ended: what follows the line, at the front of a run of at least `TEXT_ROOM` bytes.
+pub fn show_end(reader: Reader, out: &mut [u8]) -> Ending
+    ensures { λ r. ⌜ Closes (reader-of reader) (now (out .entry)) r (now (out .exit)) ⌝ }
+    ensures { λ r. ⌜ Ending-within (length (now (out .entry))) r ⌝ }
+{
+    if out.len() < TEXT_ROOM {
+        return Ending::Full;
     }
-    if out.len() < ROOM {
-        return Answer::Full;
+    let answer = answer_at_end(reader);
+    let bytes = put_closing(out, answer);
+    Ending::Text {
+        bytes: bytes,
+        number: answer.number,
+        offset: answer.offset,
     }
-    put_report(out, log)
 }

@@ -63,7 +63,7 @@ unfolding text
 text-short [] = omega arith
 text-short (w ∷ ws) = omega (arith, length-append (sign w) (text ws), sign-short w, text-short ws)
 
-text-append : (a b : List ℕ) → text (a ++ b) ≡ text a ++ text b
+pub text-append : (a b : List ℕ) → text (a ++ b) ≡ text a ++ text b
 unfolding text
 text-append [] b = refl
 text-append (w ∷ a) b = rw (text-append a b, append-assoc)

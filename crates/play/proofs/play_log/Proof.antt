@@ -1,0 +1,150 @@
+-- `play::play_log` meets its contract: the reader is one that the pieces so far led to, and each piece brings the loop nearer to its end.
+-- Places, from the last back: `p` behind a piece, `r` behind a read, `l` the loop's head, `o` the entry.
+use borrow.Author.Needs.{needs}
+use native.Mathlib.Omega.{arith}
+use mathlib.Core.Path.{sym, _∙_}
+use lib.Seq.{length-take-le}
+use Rattle.pieces.specs.Views.{reader-of}
+use Rattle.play.proofs.Playing.{taken, Going-on, to-come, begins, fits-buffer, was-refused, goes-on}
+use Rattle.play.proofs.play_log.Statement.{statement}
+use Rattle.play.proofs.play_log.Tie as tie
+
+abbrev Inv-loop : tie.InvT-loop
+Inv-loop log₀ out₀ reader₀ bytes₀ log out reader = Going-on log out (reader-of reader)
+
+abbrev μ-loop : tie.MeasureT-loop
+μ-loop log₀ out₀ reader₀ bytes₀ log out reader = to-come (reader-of reader)
+
+loop-holds : tie.Need-loop-holds Inv-loop μ-loop
+loop-holds c = let o = c .before .before .before in begins _ _ _ (o .pre .0) (o .pre .1) (c .fresh .ensures)
+
+slice-reshare-prefix-play-piece : tie.Need-slice-reshare-prefix-play-piece Inv-loop μ-loop
+slice-reshare-prefix-play-piece c =
+    let r = c .before .before .before .before .before in
+    omega (arith, taken _ _ _ (c .before .n .given .1) (r .read-piece .ensures), r .read-piece .kept .0)
+
+slice-aggregate-play-piece : tie.Need-slice-aggregate-play-piece Inv-loop μ-loop
+slice-aggregate-play-piece c =
+    let r = c .before .before .before .before .before .before in
+    let bytes = taken _ _ _ (c .before .before .n .given .1) (r .read-piece .ensures) in
+    sym (length-take-le _ _ (omega (arith, bytes, r .read-piece .kept .0)))
+
+play-piece-requires : tie.Need-play-piece-requires Inv-loop μ-loop
+play-piece-requires c κs =
+    let r = c .before .before .before .before .before .before .before in
+    let l = r .before .before in
+    let bytes = taken _ _ _ (c .before .before .before .n .given .1) (r .read-piece .ensures) in
+    (fits-buffer _ _ _ (l .loop .inv) (r .read-piece .last .0) _ (r .read-piece .kept .0) bytes, omega (arith, l .loop .inv .out-long))
+
+loop-less : tie.Need-loop-less Inv-loop μ-loop
+loop-less c =
+    let p = c .before .before .before .before .before in
+    let r = p .before .before .before .before .before .before .before .before in
+    let l = r .before .before in
+    let bytes = taken _ _ _ (p .before .before .before .before .n .given .1) (r .read-piece .ensures) in
+    goes-on _ _ _ (l .loop .inv) (r .read-piece .last .0) _ (r .read-piece .kept .0) bytes (p .play-piece .result) _ (p .play-piece .last .1 .1 .0)
+    (c .before .next .given .1) (p .play-piece .ensures) (p .play-piece .kept .1 .1 .0) .1
+
+loop-again : tie.Need-loop-again Inv-loop μ-loop
+loop-again c =
+    let p = c .before .before .before .before .before in
+    let r = p .before .before .before .before .before .before .before .before in
+    let l = r .before .before in
+    let bytes = taken _ _ _ (p .before .before .before .before .n .given .1) (r .read-piece .ensures) in
+    goes-on _ _ _ (l .loop .inv) (r .read-piece .last .0) _ (r .read-piece .kept .0) bytes (p .play-piece .result) _ (p .play-piece .last .1 .1 .0)
+    (c .before .next .given .1) (p .play-piece .ensures) (p .play-piece .kept .1 .1 .0) .0
+
+finish-requires : tie.Need-finish-requires Inv-loop μ-loop
+finish-requires c κs =
+    let p = c .before .before .before .before .before .before in
+    let r = p .before .before .before .before .before .before .before .before in
+    let l = r .before .before in
+    let bytes = taken _ _ _ (p .before .before .before .before .n .given .1) (r .read-piece .ensures) in (
+      was-refused _ _ _ (l .loop .inv) (r .read-piece .last .0) _ (r .read-piece .kept .0) bytes (p .play-piece .result) _
+          (c .before .before .last .given .1) (p .play-piece .ensures),
+      omega (arith, l .loop .inv .out-long, p .play-piece .kept .1 .1 .0),
+    )
+
+finish-requires-2 : tie.Need-finish-requires-2 Inv-loop μ-loop
+finish-requires-2 c κs = let l = c .before .before .before .before .before .before .before in (l .loop .inv .reached, omega (arith, l .loop .inv .out-long))
+
+same-length : tie.Need-same-length Inv-loop μ-loop
+same-length c =
+    let r = c .before .before .before .before .before .before .before .before .before .before .before .before .before .before .before .before .before in
+    let l = r .before .before in
+    r .read-piece .kept .0 ∙ l .loop .inv .log-long ∙ l .before .before .before .before .pre .0
+
+same-length-2 : tie.Need-same-length-2 Inv-loop μ-loop
+same-length-2 c =
+    let l = c .before .before .before .before .before .before .before .before .before .before .before .before .before .before .before .before .before .before .before in
+    c .before .before .finish .kept .1 .0 ∙ c .before .before .before .before .before .before .before .before .before .play-piece .kept .1 .1 .0 ∙ l .loop .inv .out-long ∙ l .before .before .before .before .pre .1
+
+same-length-3 : tie.Need-same-length-3 Inv-loop μ-loop
+same-length-3 c =
+    let r = c .before .before .before .before .before .before .before .before .before .before .before .before in
+    let l = r .before .before in
+    r .read-piece .kept .0 ∙ l .loop .inv .log-long ∙ l .before .before .before .before .pre .0
+
+same-length-4 : tie.Need-same-length-4 Inv-loop μ-loop
+same-length-4 c =
+    let l = c .before .before .before .before .before .before .before .before .before .before .before .before .before .before in
+    c .before .before .before .before .play-piece .kept .1 .1 .0 ∙ l .loop .inv .out-long ∙ l .before .before .before .before .pre .1
+
+same-length-5 : tie.Need-same-length-5 Inv-loop μ-loop
+same-length-5 c =
+    let r = c .before .before .before .before .before .before .before .before in
+    let l = r .before .before in
+    r .read-piece .kept .0 ∙ l .loop .inv .log-long ∙ l .before .before .before .before .pre .0
+
+same-length-6 : tie.Need-same-length-6 Inv-loop μ-loop
+same-length-6 c =
+    let l = c .before .before .before .before .before .before .before .before .before .before in
+    c .before .before .finish2 .kept .1 .0 ∙ l .loop .inv .out-long ∙ l .before .before .before .before .pre .1
+
+same-length-7 : tie.Need-same-length-7 Inv-loop μ-loop
+same-length-7 c =
+    let r = c .before .before .before .before .before .before in
+    let l = r .before .before in
+    r .read-piece .kept .0 ∙ l .loop .inv .log-long ∙ l .before .before .before .before .pre .0
+
+same-length-8 : tie.Need-same-length-8 Inv-loop μ-loop
+same-length-8 c =
+    let l = c .before .before .before .before .before .before .before .before in
+    l .loop .inv .out-long ∙ l .before .before .before .before .pre .1
+
+pub play-log-spec : {M : Type 1} → statement M
+play-log-spec =
+    tie.close
+    (tie.spec
+    Inv-loop
+    μ-loop
+    (λ c κs. search needs)
+    loop-holds
+    (λ c κs. search needs)
+    (λ c. search needs)
+    slice-reshare-prefix-play-piece
+    slice-aggregate-play-piece
+    play-piece-requires
+    (λ c. search needs)
+    loop-less
+    loop-again
+    (λ c. search needs)
+    finish-requires
+    same-length
+    same-length-2
+    (λ c. search needs)
+    (λ c. search needs)
+    same-length-3
+    same-length-4
+    (λ c. search needs)
+    (λ c. search needs)
+    finish-requires-2
+    same-length-5
+    same-length-6
+    (λ c. search needs)
+    (λ c. search needs)
+    (λ c. search needs)
+    (λ c κs. search needs)
+    same-length-7
+    same-length-8
+    (λ c. search needs))
