@@ -12,7 +12,7 @@ use std::process::ExitCode;
 use trabeculon_model::generate::{long_log, random_case, right_settings, typed_log};
 use trabeculon_model::log::{event_record, log_of, play, settings_record, RawSettings, BUFFER};
 use trabeculon_model::model::{Event, LARGEST_STAMP};
-use trabeculon_model::program::{cut_hex, feed, Fed};
+use trabeculon_model::program::{cut_hex, feed, in_turns, read_fails, Fed};
 use trabeculon_model::random::Random;
 use trabeculon_model::readers::{any_cut, random_cut};
 
@@ -62,6 +62,8 @@ fn compare_all(program: &str, count: u64, seed: u64) -> Result<(), String> {
     println!("compared the program's output on {} long logs", logs.len());
     println!("compared the program's output on {count} random logs of seed {seed}");
     stops_at_a_refusal(program, &mut random)?;
+    prints_as_it_comes(program, &mut random)?;
+    says_that_a_read_failed(program, &mut random)?;
     needs_little_memory(program, &mut random)
 }
 
@@ -175,6 +177,39 @@ fn stops_at_a_refusal(program: &str, random: &mut Random) -> Result<(), String> 
         }
     }
     println!("a refusal ends the program before the rest of {LEFT_OVER} bytes is read");
+    Ok(())
+}
+
+/// The line of a log that has not ended.
+fn line_of(log: &[u8]) -> String {
+    play(log).lines().next().unwrap_or_default().to_string()
+}
+
+/// What a part of a log brings is printed before the next part comes.
+fn prints_as_it_comes(program: &str, random: &mut Random) -> Result<(), String> {
+    let log = typed_log(random, SOLO, 3 * BUFFER);
+    let parts: Vec<_> = log.chunks(BUFFER / 2 + 1).collect();
+    let lines: Vec<_> = (0..=parts.len()).map(|count| line_of(&parts[..count].concat())).collect();
+    let more: Vec<_> = lines.windows(2).map(|two| two[1].len() - two[0].len()).collect();
+    let printed = in_turns(program, &parts, &more).map_err(|error| format!("{program}: {error}"))?;
+    if lossy(&printed) != lines[parts.len()] {
+        return Err(format!("printed as it comes: {}", shown(&lossy(&printed))));
+    }
+    println!("the line is printed as a log of {} parts comes", parts.len());
+    Ok(())
+}
+
+/// Standard input that has no more bytes and no end. What was printed stays, and nothing
+/// comes below it.
+fn says_that_a_read_failed(program: &str, random: &mut Random) -> Result<(), String> {
+    let log = typed_log(random, SOLO, BUFFER / 2);
+    let output = read_fails(program, &log).map_err(|error| format!("{program}: {error}"))?;
+    let (printed, said) = (lossy(&output.stdout), lossy(&output.stderr));
+    let reason = said.strip_prefix("play: standard input: ").unwrap_or_default();
+    if printed != line_of(&log) || reason.lines().count() != 1 {
+        return Err(format!("a read that fails: {} {said:?}", shown(&printed)));
+    }
+    print!("a read that fails is said: {said}");
     Ok(())
 }
 

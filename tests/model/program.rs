@@ -1,7 +1,10 @@
 //! Runs a program with bytes on its standard input; bytes as text.
 
-use std::io::{Result, Write};
+use std::io::{BufReader, Error, Read, Result, Write};
+use std::os::fd::OwnedFd;
+use std::os::unix::net::UnixStream;
 use std::process::{Command, Output, Stdio};
+use std::sync::mpsc::channel;
 use std::thread::{scope, sleep};
 use std::time::Duration;
 
@@ -39,6 +42,41 @@ pub fn feed(program: &str, arguments: &[String], input: &[u8], pieces: &[usize])
         let (took_all, peak) = writer.join().unwrap_or_default();
         Ok(Fed { output, took_all, peak })
     })
+}
+
+/// Gives the program its input in parts, each after as many bytes as the part before
+/// brings were printed. All that was printed before its input ended; an error if it
+/// takes too long.
+pub fn in_turns(program: &str, parts: &[&[u8]], printed: &[usize]) -> Result<Vec<u8>> {
+    let mut child = Command::new(program).stdin(Stdio::piped()).stdout(Stdio::piped()).spawn()?;
+    let (mut stdin, stdout) = (child.stdin.take(), child.stdout.take());
+    let (sender, receiver) = channel();
+    std::thread::spawn(move || {
+        let mut bytes = stdout.into_iter().flat_map(|out| BufReader::new(out).bytes());
+        while bytes.next().is_some_and(|byte| byte.is_ok_and(|byte| sender.send(byte).is_ok())) {}
+    });
+    let mut all = vec![];
+    for (part, more) in parts.iter().zip(printed) {
+        stdin.as_mut().map_or(Ok(()), |stdin| stdin.write_all(part))?;
+        for _ in 0..*more {
+            all.push(receiver.recv_timeout(PATIENCE).map_err(Error::other)?);
+        }
+    }
+    drop(stdin);
+    child.wait()?;
+    Ok(all)
+}
+
+/// So long a program may take to print what it should.
+const PATIENCE: Duration = Duration::from_secs(20);
+
+/// Runs the program with an input that gives these bytes, and then neither more nor an
+/// end: a read that would have to wait fails.
+pub fn read_fails(program: &str, input: &[u8]) -> Result<Output> {
+    let (mut to, from) = UnixStream::pair()?;
+    from.set_nonblocking(true)?;
+    to.write_all(input)?;
+    Command::new(program).stdin(OwnedFd::from(from)).output()
 }
 
 /// After each of the first pieces, and then now and then, the program gets time to read
