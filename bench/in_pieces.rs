@@ -217,7 +217,8 @@ pub fn run(mib: usize, rounds: usize) -> Result<(), String> {
     for size in SIZES {
         let few = &logs[..logs.len().min(size.saturating_mul(MIB_FOR_A_BYTE))];
         compare(few, size)?;
-        report(size, few, &Pair::measure(few, rounds, timed::<Library>(size), timed::<Plain>(size)));
+        let pair = Pair::measure(few, rounds, timed::<Library>(size), timed::<Plain>(size));
+        report(size, few, &pair);
     }
     Ok(())
 }

@@ -130,7 +130,7 @@ fn far_refusals(random: &mut Random) -> Vec<Vec<u8>> {
 // ---- Comparing ----
 
 fn compare(program: &str, log: &[u8], pieces: &[usize]) -> Result<Fed, String> {
-    let fed = feed(program, &[], log, pieces).map_err(|error| format!("{program}: {error}"))?;
+    let fed = ran(program, feed(program, &[], log, pieces))?;
     let right = play(log);
     let (printed, said) = (&fed.output.stdout, lossy(&fed.output.stderr));
     if printed == right.as_bytes() && in_words(&right, &said) {
@@ -145,6 +145,10 @@ fn compare(program: &str, log: &[u8], pieces: &[usize]) -> Result<Fed, String> {
         shown(&lossy(&printed[same..])),
         shown(&lossy(&right.as_bytes()[same..])),
     ))
+}
+
+fn ran<T>(program: &str, result: std::io::Result<T>) -> Result<T, String> {
+    result.map_err(|error| format!("{program}: {error}"))
 }
 
 /// One line on standard error for a refusal, and none for a log that plays. What it
@@ -191,7 +195,7 @@ fn prints_as_it_comes(program: &str, random: &mut Random) -> Result<(), String> 
     let parts: Vec<_> = log.chunks(BUFFER / 2 + 1).collect();
     let lines: Vec<_> = (0..=parts.len()).map(|count| line_of(&parts[..count].concat())).collect();
     let more: Vec<_> = lines.windows(2).map(|two| two[1].len() - two[0].len()).collect();
-    let printed = in_turns(program, &parts, &more).map_err(|error| format!("{program}: {error}"))?;
+    let printed = ran(program, in_turns(program, &parts, &more))?;
     if lossy(&printed) != lines[parts.len()] {
         return Err(format!("printed as it comes: {}", shown(&lossy(&printed))));
     }
@@ -203,7 +207,7 @@ fn prints_as_it_comes(program: &str, random: &mut Random) -> Result<(), String> 
 /// comes below it.
 fn says_that_a_read_failed(program: &str, random: &mut Random) -> Result<(), String> {
     let log = typed_log(random, SOLO, BUFFER / 2);
-    let output = read_fails(program, &log).map_err(|error| format!("{program}: {error}"))?;
+    let output = ran(program, read_fails(program, &log))?;
     let (printed, said) = (lossy(&output.stdout), lossy(&output.stderr));
     let reason = said.strip_prefix("play: standard input: ").unwrap_or_default();
     if printed != line_of(&log) || reason.lines().count() != 1 {
