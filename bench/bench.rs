@@ -1,13 +1,15 @@
-//! Times the proved library against a tuned Rust reader on the same logs:
+//! Times the proved library against a plain Rust reader, tuned by hand, on the same
+//! logs, read whole and in pieces:
 //!
 //!   bench [ROUNDS [MIB]]
 //!
-//! 50 MiB of valid typed logs of at most 65,536 bytes each are made in memory.
-//! Before timing, both readers are compared with the model on every log. In each
-//! round every log is read by both readers, one right after the other; which goes
-//! first changes from log to log and from round to round. Each reader has one run
-//! of its own, written in full once before timing (so that its pages are there)
-//! and not cleared between logs or rounds.
+//! 50 MiB of valid typed logs of at most 65,536 bytes each are made in memory, and as
+//! much again of 1 MiB each, to be read in pieces (in_pieces.rs). Before timing, both
+//! readers are compared with the model on every log. In each round every log is read
+//! by both readers, one right after the other; which goes first changes from log to
+//! log and from round to round. Each reader has one run of its own, written in full
+//! once before timing (so that its pages are there) and not cleared between logs or
+//! rounds.
 //!
 //! On a busy machine the steadiest figure is the one by each log's fastest round.
 //! Instructions don't depend on the load at all:
@@ -15,15 +17,17 @@
 //!   valgrind --tool=callgrind --callgrind-out-file=FILE target/bench/bench 1 2
 //!   callgrind_annotate --inclusive=yes FILE | grep read_log
 
-mod reader;
+mod in_pieces;
+mod times;
 
 use std::hint::black_box;
 use std::process::ExitCode;
-use std::time::{Duration, Instant};
 
+use times::{milliseconds, Pair, Times};
 use trabeculon_model::generate::{right_settings, typed_log};
 use trabeculon_model::log::{read_log_bytes, Answer, BUFFER};
 use trabeculon_model::random::Random;
+use trabeculon_plain::reader;
 
 extern "C" {
     fn trabeculon_read_log(log: *const u8, log_len: usize, out: *mut u8, out_len: usize) -> Answer;
@@ -52,52 +56,67 @@ fn main() -> ExitCode {
         eprintln!("usage: bench [ROUNDS [MIB]]");
         return ExitCode::from(2);
     };
-    let logs = make_logs(mib << 20);
-    let bytes: usize = logs.iter().map(Vec::len).sum();
-    println!("{} valid logs of at most {BUFFER} bytes, {bytes} bytes in all", logs.len());
-    let Some(words) = compare(&logs) else {
-        return ExitCode::FAILURE;
-    };
-    println!("both readers agree with the model on every log; {words} words");
-    measure(&logs, bytes, rounds);
-    ExitCode::SUCCESS
+    match whole_logs(mib, rounds).and_then(|()| in_pieces::run(mib, rounds)) {
+        Ok(()) => ExitCode::SUCCESS,
+        Err(message) => {
+            println!("{message}");
+            ExitCode::FAILURE
+        }
+    }
 }
 
-/// Half of the logs have usual settings, the others any.
-fn make_logs(total: usize) -> Vec<Vec<u8>> {
+fn whole_logs(mib: usize, rounds: usize) -> Result<(), String> {
+    let logs = make_logs(mib << 20, BUFFER);
+    let bytes: usize = logs.iter().map(Vec::len).sum();
+    println!("{} valid logs of at most {BUFFER} bytes, {bytes} bytes in all", logs.len());
+    let words = compare(&logs)?;
+    println!("both readers agree with the model on every log; {words} words");
+    let pair = Pair::measure(&logs, rounds, timed(library_read_log), timed(reader::read_log));
+    println!("{rounds} rounds, interleaved log by log; runs not cleared between logs or rounds");
+    report("proved library", &pair.library, bytes);
+    report("Rust reader", &pair.rust, bytes);
+    let [median, minimum, fastest] = pair.ratios();
+    println!(
+        "ratio library / Rust: {median:.3} by median, {minimum:.3} by minimum, \
+         {fastest:.3} by each log's fastest"
+    );
+    Ok(())
+}
+
+/// Logs of so many bytes in all, each of at most `longest`. Half of them have usual
+/// settings, the others any.
+fn make_logs(total: usize, longest: usize) -> Vec<Vec<u8>> {
     let mut random = Random::new(SEED);
     let mut logs = vec![];
     let mut bytes = 0;
     while bytes < total {
         let any = right_settings(&mut random);
         let settings = if logs.len() % 2 == 0 { (100, 50, 50, 0) } else { any };
-        let log = typed_log(&mut random, settings, BUFFER);
+        let log = typed_log(&mut random, settings, longest);
         bytes += log.len();
         logs.push(log);
     }
     logs
 }
 
-/// Reads every log with both readers and the model; none at the first difference.
-fn compare(logs: &[Vec<u8>]) -> Option<u64> {
+/// Reads every log with both readers and the model. The words of all; an error at the
+/// first difference.
+fn compare(logs: &[Vec<u8>]) -> Result<u64, String> {
     let mut words = 0;
     for (index, log) in logs.iter().enumerate() {
         let model = read_with(read_log_bytes, log);
         if model.0.number != 0 {
-            println!("log {index} is refused {}", model.0.number);
-            return None;
+            return Err(format!("log {index} is refused {}", model.0.number));
         }
         if read_with(library_read_log, log) != model {
-            println!("the library differs from the model on log {index}");
-            return None;
+            return Err(format!("the library differs from the model on log {index}"));
         }
         if read_with(reader::read_log, log) != model {
-            println!("the Rust reader differs from the model on log {index}");
-            return None;
+            return Err(format!("the Rust reader differs from the model on log {index}"));
         }
         words += model.0.words;
     }
-    Some(words)
+    Ok(words)
 }
 
 /// The answer and the whole run afterwards.
@@ -107,85 +126,21 @@ fn read_with(reader: Reader, log: &[u8]) -> (Answer, Vec<u8>) {
     (answer, out)
 }
 
-/// One reader's times.
-struct Times {
-    reader: Reader,
-    run: Vec<u8>,
-    /// All logs, by round.
-    rounds: Vec<Duration>,
-    /// Each log's fastest round.
-    fastest: Vec<Duration>,
-}
-
-impl Times {
-    fn new(reader: Reader, logs: usize) -> Times {
-        let run = vec![0xa5; RUN];
-        Times { reader: black_box(reader), run, rounds: vec![], fastest: vec![Duration::MAX; logs] }
-    }
-
-    /// Reads one log and adds its time to the current round.
-    fn read(&mut self, index: usize, log: &[u8]) {
-        let start = Instant::now();
-        black_box((self.reader)(black_box(log), black_box(&mut self.run)));
-        let time = start.elapsed();
-        if let Some(round) = self.rounds.last_mut() {
-            *round += time;
-        }
-        self.fastest[index] = self.fastest[index].min(time);
-    }
-
-    fn median(&self) -> Duration {
-        let mut rounds = self.rounds.clone();
-        rounds.sort();
-        rounds[rounds.len() / 2]
-    }
-
-    fn minimum(&self) -> Duration {
-        self.rounds.iter().copied().min().unwrap_or_default()
-    }
-
-    fn fastest(&self) -> Duration {
-        self.fastest.iter().sum()
-    }
-
-    fn report(&self, name: &str, bytes: usize) {
-        let rate = bytes as f64 / 1e6 / self.fastest().as_secs_f64();
-        let [median, minimum, fastest] =
-            [self.median(), self.minimum(), self.fastest()].map(|time| time.as_secs_f64() * 1e3);
-        println!(
-            "{name:<15} median {median:7.2} ms, minimum {minimum:7.2} ms, \
-             each log's fastest {fastest:7.2} ms ({rate:.0} MB/s)"
-        );
+/// Reads a log into a run that stays.
+fn timed(reader: Reader) -> impl FnMut(&[u8]) {
+    let reader = black_box(reader);
+    let mut run = vec![0xa5; RUN];
+    move |log| {
+        black_box(reader(black_box(log), black_box(&mut run)));
     }
 }
 
-fn measure(logs: &[Vec<u8>], bytes: usize, rounds: usize) {
-    let mut library = Times::new(library_read_log, logs.len());
-    let mut rust = Times::new(reader::read_log, logs.len());
-    for round in 0..rounds {
-        library.rounds.push(Duration::ZERO);
-        rust.rounds.push(Duration::ZERO);
-        for (index, log) in logs.iter().enumerate() {
-            if (round + index) % 2 == 0 {
-                library.read(index, log);
-                rust.read(index, log);
-            } else {
-                rust.read(index, log);
-                library.read(index, log);
-            }
-        }
-    }
-    println!("{rounds} rounds, interleaved log by log; runs not cleared between logs or rounds");
-    library.report("proved library", bytes);
-    rust.report("Rust reader", bytes);
+fn report(name: &str, times: &Times, bytes: usize) {
+    let rate = bytes as f64 / 1e6 / times.fastest().as_secs_f64();
+    let [median, minimum, fastest] =
+        [times.median(), times.minimum(), times.fastest()].map(milliseconds);
     println!(
-        "ratio library / Rust: {:.3} by median, {:.3} by minimum, {:.3} by each log's fastest",
-        ratio(library.median(), rust.median()),
-        ratio(library.minimum(), rust.minimum()),
-        ratio(library.fastest(), rust.fastest()),
+        "{name:<15} median {median:7.2} ms, minimum {minimum:7.2} ms, \
+         each log's fastest {fastest:7.2} ms ({rate:.0} MB/s)"
     );
-}
-
-fn ratio(library: Duration, rust: Duration) -> f64 {
-    library.as_secs_f64() / rust.as_secs_f64()
 }

@@ -12,15 +12,12 @@
 //! the library's reader of whole logs must say the same, until an 8; and calls after
 //! the end are tried. Exit 0: all equal. Exit 1: a mismatch, printed. Exit 2: wrong
 //! arguments.
-//!
-//! The library has no reader in pieces yet. Until it has, tests/run compiles this file
-//! and neither links nor runs it.
 
 use std::mem::size_of;
 use std::process::ExitCode;
 
 use trabeculon_model::arguments::{self, named};
-use trabeculon_model::generate::{base_logs, every_place, random_case, typed_log};
+use trabeculon_model::generate::{base_logs, every_place, random_case, typed_log, Case};
 use trabeculon_model::log::Answer;
 use trabeculon_model::model::SLIPS;
 use trabeculon_model::pieces::{
@@ -81,9 +78,9 @@ const LOGS_FOR_A_LONG_ONE: u64 = 5_000;
 const LONG: usize = 70_000;
 /// Random logs up to this length are cut at every place.
 const SHORT: usize = 64;
-/// Of the damaged logs every fifth is cut at random, and some are at every place.
-const LOGS_FOR_A_CUT: u64 = 5;
-const LOGS_FOR_EVERY_CUT: u64 = 500;
+/// Of the damaged logs so many are cut at every place, of short ones more.
+const LOGS_FOR_EVERY_CUT: usize = 500;
+const SHORT_LOGS_FOR_EVERY_CUT: usize = 20;
 /// A log's beginnings are read whole after each piece up to this length.
 const OFTEN_READ: usize = 1_500;
 /// So many pieces of a log are given once its answer is for good.
@@ -288,15 +285,17 @@ fn compare_whole_logs(arguments: &Arguments) -> Result<(), String> {
 fn compare_damaged_logs(arguments: &Arguments) -> Result<(), String> {
     let mut compared = Compared::new(arguments.seed, arguments.wrong);
     let mut index = 0;
-    every_place(|case| {
+    every_place(|Case { log, .. }| {
         index += 1;
-        if index % LOGS_FOR_EVERY_CUT == 0 {
-            compared.every_cut(&case.log)?;
+        let short = log.len() <= SHORT;
+        let rare = if short { SHORT_LOGS_FOR_EVERY_CUT } else { LOGS_FOR_EVERY_CUT };
+        if index % rare == 0 {
+            compared.every_cut(&log)?;
         }
-        if index % LOGS_FOR_A_CUT != 0 {
-            return Ok(());
-        }
-        compared.random_cut(&case.log, Runs::Enough)
+        // The next log at the next place.
+        let cut = index % (log.len() + 1);
+        compared.log(&log, &[cut, log.len() - cut], Runs::Enough)?;
+        compared.random_cut(&log, Runs::Enough)
     })?;
     compared.print("of logs damaged at every place");
     Ok(())

@@ -431,14 +431,14 @@ pub fn typed_log(random: &mut Random, raw: RawSettings, bytes: usize) -> Vec<u8>
 
 /// Events without end as in a typed log, in the order of their stamps, and few at a
 /// time in memory.
-pub struct Typing {
+struct Typing {
     random: Random,
     now: u64,
     waiting: Vec<Event>,
 }
 
 impl Typing {
-    pub fn new(seed: u64) -> Typing {
+    fn new(seed: u64) -> Typing {
         Typing { random: Random::new(seed), now: 0, waiting: vec![] }
     }
 }
@@ -455,6 +455,15 @@ impl Iterator for Typing {
         }
         Some(self.waiting.remove(0))
     }
+}
+
+const LONG_SEED: u64 = 20_010_401;
+
+/// The records of a valid log of at most `bytes` bytes, always of the same typing.
+pub fn long_log(bytes: usize) -> impl Iterator<Item = Vec<u8>> {
+    let count = bytes.saturating_sub(SETTINGS_LENGTH) / EVENT_LENGTH;
+    let events = Typing::new(LONG_SEED).take(count).map(event_record);
+    std::iter::once(settings_record(100, 50, 50, 1)).chain(events)
 }
 
 /// One stroke that starts at `now`.

@@ -17,8 +17,7 @@ use trabeculon_model::demand3;
 use trabeculon_model::drill::{drill, USUAL_SETTINGS};
 use trabeculon_model::generate;
 use trabeculon_model::log::{
-    event_record, log_of, play, read_log, read_log_bytes, settings_record, Answer, RawSettings,
-    BUFFER,
+    log_of, play, read_log, read_log_bytes, settings_record, Answer, RawSettings, BUFFER,
 };
 use trabeculon_model::model::{
     character, sign, step, Event, Face, Item, Machine, Resting, Settings, Thumb, KEYS,
@@ -73,21 +72,16 @@ fn drill_input(settings: RawSettings) -> Result<(), String> {
 
 /// No stamp of so much typing is above the largest.
 const MOST_MIB: u64 = 100_000;
-const LONG_SEED: u64 = 20_010_401;
 
 /// A valid log of at most so many MiB.
 fn write_long(mib: u64) -> Result<(), String> {
     if !(1..=MOST_MIB).contains(&mib) {
         return Err(format!("a log has 1 to {MOST_MIB} MiB"));
     }
-    let settings = settings_record(100, 50, 50, 1);
-    let events = ((mib << 20) as usize - settings.len()) / 13;
     let mut output = BufWriter::with_capacity(BUFFER, std::io::stdout().lock());
-    let mut write = |bytes: &[u8]| output.write_all(bytes).map_err(|e| e.to_string());
-    write(&settings)?;
-    let mut typing = generate::Typing::new(LONG_SEED).take(events);
-    typing.try_for_each(|event| write(&event_record(event)))?;
-    output.flush().map_err(|e| e.to_string())
+    let mut records = generate::long_log((mib << 20) as usize);
+    let written = records.try_for_each(|record| output.write_all(&record));
+    written.and_then(|()| output.flush()).map_err(|e| e.to_string())
 }
 
 fn read_input() -> Result<Vec<u8>, String> {
@@ -382,17 +376,23 @@ fn check_bytes(log: &[u8]) -> Result<(), String> {
     expect("its bytes", out, [0x30, 0x55, 0x30, 0x44, 0x30, 0x4c, 0x30, 0x44, 0xee])
 }
 
-/// The program's output: marks, refusals, the longest log.
+/// The program's output: marks, refusals, logs that are longer than its buffer.
 fn check_program() -> Result<(), String> {
     let marks = log_of((100, 50, 50, 1), &keystrokes("L@0 R@10 Rup@20 21@30")?);
     expect("marks", play(&marks), "<L><R>\nwaiting 1\n".to_string())?;
     expect("empty", play(&[]), "\nrefused 6 at 0\n".to_string())?;
-    let mut long = log_of((100, 50, 50, 0), &keystrokes("21@0 tick@100")?);
-    long.resize(BUFFER, 0);
-    expect("65,536 bytes", play(&long), "か\nrefused 7 at 34\n".to_string())?;
-    long.push(0);
-    expect("65,537 bytes", play(&long), "refused 9 at 65536\n".to_string())?;
-    println!("program: marks, empty log, 65,536 and 65,537 bytes");
+    let mut log = log_of((100, 50, 50, 0), &keystrokes("21@0 tick@100")?);
+    for length in [BUFFER, BUFFER + 1] {
+        log.resize(length, 0);
+        expect("zeros behind", play(&log), "か\nrefused 7 at 34\n".to_string())?;
+    }
+    let pressed = |stamp: u64| [1, 2].map(|kind| Event { kind, key: 21, stamp });
+    let long = log_of((100, 50, 50, 0), &(0..6_000).flat_map(pressed).collect::<Vec<_>>());
+    let line = "か".repeat(6_000);
+    expect("a long line", play(&long), format!("{line}\nwaiting 0\n"))?;
+    let cut = &long[..long.len() - 1];
+    expect("cut far behind", play(cut), format!("{}\nrefused 6 at 155995\n", &line[3..]))?;
+    println!("program: marks, an empty log, logs of more than {BUFFER} bytes");
     Ok(())
 }
 

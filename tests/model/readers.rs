@@ -171,17 +171,32 @@ fn broken(random: &mut Random, reader: FlatReader) -> FlatReader {
 /// The lengths of the pieces of a log of this length: of one size or of any, with
 /// empty ones among them.
 pub fn random_cut(random: &mut Random, length: usize) -> Vec<usize> {
-    let size = random.pick(&[1, 2, 7, 13, 64, 0]);
+    let size = random.pick(&[1, 2, 7, 13, 64, 65_536, 0]);
+    let mut pieces = match size {
+        0 => any_cut(random, length),
+        _ => cut(length, || size),
+    };
+    if random.once_in(4) {
+        pieces.insert(random.place(pieces.len() + 1), 0);
+    }
+    pieces
+}
+
+/// The same of any sizes, so that there are not too many pieces of a long log.
+pub fn any_cut(random: &mut Random, length: usize) -> Vec<usize> {
+    cut(length, || {
+        let most = random.pick(&[0, 1, 2, 7, 13, 64, 100, 1_000, 5_000, 65_536]);
+        random.place(most + 1)
+    })
+}
+
+fn cut(length: usize, mut size: impl FnMut() -> usize) -> Vec<usize> {
     let mut left = length;
     let mut pieces = vec![];
     while left > 0 {
-        let any = random.pick(&[0, 1, 2, 7, 13, 64, 100, 1_000, 5_000, 65_536]);
-        let piece = if size == 0 { random.place(any + 1) } else { size }.min(left);
+        let piece = size().min(left);
         left -= piece;
         pieces.push(piece);
-    }
-    if random.once_in(4) {
-        pieces.insert(random.place(pieces.len() + 1), 0);
     }
     pieces
 }
