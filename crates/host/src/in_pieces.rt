@@ -78,7 +78,7 @@ pub extern "C" fn trabeculon_reader_piece(
     ensures { λ r. ⌜ GivesPiece reader (now (piece .entry)) (now (out .entry)) (accepted reader) r (now (out .exit)) ⌝ }
 {
     match reader_of(reader) {
-        NamedReader::None => refused(reader),
+        NamedReader::None => refused(reader), // nothing is read
         NamedReader::Some(before) => numbers(pieces::feed_packed(before, piece, out)),
     }
 }
