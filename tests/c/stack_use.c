@@ -1,5 +1,5 @@
 /*
- * How much stack the five functions of include/trabeculon.h use. Each is called on
+ * How much stack the eight functions of include/trabeculon.h use. Each is called on
  * a stack of its own that was filled with a pattern: the deepest byte that changed
  * says how far it went. The inputs are random ones, right and damaged, so what is
  * printed is the most that was seen: bytes, with the call itself and what it hands
@@ -53,6 +53,10 @@ static trabeculon_drill drill;
 static trabeculon_opened opened;
 static trabeculon_stepped stepped;
 static trabeculon_asked asked;
+static trabeculon_reader reader;
+static trabeculon_piece_read piece_read;
+static const uint8_t *piece;
+static size_t piece_len;
 
 static void random_settings(void) {
     t = 50 + below(952);
@@ -93,6 +97,15 @@ static void random_log(void) {
     }
 }
 
+/* Short pieces, which leave a record begun, and longer ones. */
+static void random_piece(size_t at) {
+    piece = log_bytes + at;
+    piece_len = below(2) ? below(14) : below(300);
+    if (piece_len > log_len - at) {
+        piece_len = log_len - at;
+    }
+}
+
 static void random_line(void) {
     for (int i = 0; i < LINE; i++) {
         line[i] = 0x3041 + below(0x53);
@@ -115,6 +128,11 @@ static void call_write_drill(void) {
 static void call_open(void) { opened = trabeculon_open(t, j, l, solo); }
 static void call_step(void) { stepped = trabeculon_step(machine, kind, key, stamp); }
 static void call_distance(void) { asked = trabeculon_distance(machine, stamp); }
+static void call_reader_fresh(void) { reader = trabeculon_reader_fresh(); }
+static void call_reader_piece(void) {
+    piece_read = trabeculon_reader_piece(reader, piece, piece_len, out, sizeof out);
+}
+static void call_reader_end(void) { piece_read = trabeculon_reader_end(reader); }
 
 static size_t depth_of(void (*call)(void)) {
     memset(stack, PATTERN, STACK_SIZE);
@@ -139,6 +157,7 @@ static void deepest(size_t *most, void (*call)(void)) {
 }
 
 int main(void) {
+    size_t fresh = 0, piece_of_log = 0, end = 0;
     size_t read_log = 0, write_drill = 0, open = 0, step = 0, distance = 0;
     size_t refused = 0, commits = 0;
     for (int round = 0; round < ROUNDS; round++) {
@@ -156,14 +175,24 @@ int main(void) {
         }
         random_log();
         deepest(&read_log, call_read_log);
+        deepest(&fresh, call_reader_fresh);
+        for (size_t at = 0; at < log_len; at += piece_len) {
+            random_piece(at);
+            deepest(&piece_of_log, call_reader_piece);
+            reader = piece_read.reader;
+            deepest(&end, call_reader_end);
+        }
         random_line();
         deepest(&write_drill, call_write_drill);
     }
     size_t none = depth_of(no_call);
-    printf("trabeculon_read_log     %6zu\n", read_log - none);
-    printf("trabeculon_write_drill  %6zu\n", write_drill - none);
-    printf("trabeculon_open         %6zu\n", open - none);
-    printf("trabeculon_step         %6zu\n", step - none);
-    printf("trabeculon_distance     %6zu\n", distance - none);
+    printf("trabeculon_read_log      %6zu\n", read_log - none);
+    printf("trabeculon_reader_fresh  %6zu\n", fresh - none);
+    printf("trabeculon_reader_piece  %6zu\n", piece_of_log - none);
+    printf("trabeculon_reader_end    %6zu\n", end - none);
+    printf("trabeculon_write_drill   %6zu\n", write_drill - none);
+    printf("trabeculon_open          %6zu\n", open - none);
+    printf("trabeculon_step          %6zu\n", step - none);
+    printf("trabeculon_distance      %6zu\n", distance - none);
     return refused == 0 || commits == 0;
 }

@@ -1,4 +1,3 @@
-pub mod Packing
 pub mod ReadersBack
 pub mod InPieces
 pub mod InPiecesFacts

@@ -33,7 +33,7 @@ fn refused(reader: FlatReader) -> PieceRead
 }
 
 // What a call gives, as numbers.
-fn numbers(fed: Fed) -> PieceRead
+fn handed_back(fed: Fed) -> PieceRead
     ensures { λ r. ⌜ r .reader ≡ reader-numbers (fed .reader) ⌝ }
     ensures { λ r. ⌜ told (r .answer) ≡ fed .answer ⌝ }
 {
@@ -41,12 +41,7 @@ fn numbers(fed: Fed) -> PieceRead
     let answer = fed.answer;
     PieceRead {
         reader: numbers_of(reader),
-        answer: Answer {
-            number: answer.number,
-            waiting: answer.waiting,
-            words: answer.words as u64,
-            offset: answer.offset as u64,
-        },
+        answer: crate::numbers(answer),
     }
 }
 
@@ -78,8 +73,8 @@ pub extern "C" fn trabeculon_reader_piece(
     ensures { λ r. ⌜ GivesPiece reader (now (piece .entry)) (now (out .entry)) (accepted reader) r (now (out .exit)) ⌝ }
 {
     match reader_of(reader) {
-        NamedReader::None => refused(reader),
-        NamedReader::Some(before) => numbers(pieces::feed_packed(before, piece, out)),
+        NamedReader::None => refused(reader), // nothing is read
+        NamedReader::Some(before) => handed_back(pieces::feed_packed(before, piece, out)),
     }
 }
 
@@ -90,6 +85,6 @@ pub extern "C" fn trabeculon_reader_end(reader: FlatReader) -> PieceRead
 {
     match reader_of(reader) {
         NamedReader::None => refused(reader),
-        NamedReader::Some(before) => numbers(pieces::end_log(before)),
+        NamedReader::Some(before) => handed_back(pieces::end_log(before)),
     }
 }

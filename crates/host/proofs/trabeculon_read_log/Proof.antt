@@ -8,5 +8,6 @@ trabeculon-read-log-spec =
     tie.close
     (tie.spec
     (λ c κs. search needs)
-    (λ c. c .before .before .read-packed .kept .1 .0)
-    (λ c. c .before .before .read-packed .ensures))
+    (λ c κs. search needs)
+    (λ c. c .before .before .before .read-packed .kept .1 .0)
+    (λ c. rw (c .numbers .ensures) (c .before .before .before .read-packed .ensures)))

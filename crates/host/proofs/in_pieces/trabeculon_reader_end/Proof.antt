@@ -23,4 +23,4 @@ trabeculon-reader-end-spec =
     (λ c.
     let at-match = c .before .before .before in
     let names = sym (at-match .before .before .reader-of .ensures) ∙ ap reader-as (at-match .before2 .given .1) in
-    reader-ended _ _ (c .numbers .ensures .0) (c .numbers .ensures .1) _ _ names _ refl (c .before .end-log .ensures)))
+    reader-ended _ _ (c .handed-back .ensures .0) (c .handed-back .ensures .1) _ _ names _ refl (c .before .end-log .ensures)))

@@ -25,4 +25,4 @@ trabeculon-reader-piece-spec =
     let at-feed = c .before .before .before in
     let at-match = at-feed .before .before .before in
     let names = sym (at-match .before .before .reader-of .ensures) ∙ ap reader-as (at-match .before2 .given .1) in
-    reader-fed _ _ (c .numbers .ensures .0) (c .numbers .ensures .1) _ _ names _ _ _ _ refl (at-feed .feed-packed .ensures)))
+    reader-fed _ _ (c .handed-back .ensures .0) (c .handed-back .ensures .1) _ _ names _ _ _ _ refl (at-feed .feed-packed .ensures)))

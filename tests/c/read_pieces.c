@@ -1,0 +1,296 @@
+/*
+ * Reads a log in pieces through include/trabeculon.h as a C host would, and
+ * checks each answer, the words, and that the rest of each run is untouched.
+ * Prints one line per check; exits 1 if one failed.
+ *
+ *   read_pieces [LOG]   the log of document 01, examples/saigai.log if none is
+ *                       named
+ */
+#include "trabeculon.h"
+
+#include <stdio.h>
+#include <string.h>
+
+#define LOG_LEN 138
+#define RUN_LEN 64
+#define LINE_LEN 64
+#define UNTOUCHED 0xA5
+#define LONGEST_LOG 1000000000000u
+
+_Static_assert(sizeof(trabeculon_reader) == 96, "a reader has no padding");
+_Static_assert(sizeof(trabeculon_piece_read) == 120, "its answer has no padding");
+
+/* The words of the log: U+3055, U+3044, U+304C, U+3044. */
+static const uint8_t WORDS[8] = {0x30, 0x55, 0x30, 0x44, 0x30, 0x4C, 0x30, 0x44};
+
+static uint8_t log_bytes[LOG_LEN];
+static int failures = 0;
+
+static void report(const char *name, const char *what, int ok) {
+    printf("%s: %s, %s\n", ok ? "ok" : "FAILED", name, what);
+    if (!ok) {
+        failures++;
+    }
+}
+
+static trabeculon_answer answer(uint32_t number, uint64_t words, uint64_t offset,
+                                uint32_t waiting) {
+    trabeculon_answer a = {number, waiting, words, offset};
+    return a;
+}
+
+/* No padding, so two answers or two readers are the same if their bytes are. */
+static int same_answer(trabeculon_answer got, trabeculon_answer want) {
+    return memcmp(&got, &want, sizeof got) == 0;
+}
+
+static int same_reader(trabeculon_reader got, trabeculon_reader want) {
+    return memcmp(&got, &want, sizeof got) == 0;
+}
+
+static int all_untouched(const uint8_t *bytes, size_t length) {
+    for (size_t i = 0; i < length; i++) {
+        if (bytes[i] != UNTOUCHED) {
+            return 0;
+        }
+    }
+    return 1;
+}
+
+/* What a host has of a log: the reader, and the line so far. */
+typedef struct {
+    trabeculon_piece_read last;
+    uint8_t line[LINE_LEN];
+    size_t line_len;
+    int clean; /* no byte of a run was touched besides the words */
+} host;
+
+static host begin(void) {
+    host h;
+    memset(&h, 0, sizeof h);
+    h.last.reader = trabeculon_reader_fresh();
+    h.clean = 1;
+    return h;
+}
+
+/* One piece with a run of so many bytes. */
+static void take_piece(host *h, const uint8_t *piece, size_t piece_len, size_t run_len) {
+    uint8_t run[RUN_LEN];
+    memset(run, UNTOUCHED, sizeof run);
+    trabeculon_piece_read got =
+        trabeculon_reader_piece(h->last.reader, piece, piece_len, run, run_len);
+    size_t written =
+        got.answer.number == 2 ? 0 : 2 * (size_t)(got.answer.words - h->last.reader.words);
+    memcpy(h->line + h->line_len, run, written);
+    h->line_len += written;
+    h->clean = h->clean && all_untouched(run + written, RUN_LEN - written);
+    h->last = got;
+}
+
+static void finish(host *h) {
+    h->last = trabeculon_reader_end(h->last.reader);
+}
+
+static void check_host(const char *name, const host *h, trabeculon_answer want) {
+    report(name, "answer", same_answer(h->last.answer, want));
+    report(name, "line", h->line_len == 2 * want.words && memcmp(h->line, WORDS, h->line_len) == 0);
+    report(name, "runs untouched besides", h->clean);
+}
+
+/* The log from a place to another in pieces of one length. Before the end each
+ * answer is 0 and the bytes so far. */
+static int feed(host *h, size_t from, size_t to, size_t length) {
+    int going = 1;
+    for (size_t at = from; at < to; at += length) {
+        size_t piece_len = to - at < length ? to - at : length;
+        take_piece(h, log_bytes + at, piece_len, RUN_LEN);
+        going = going && h->last.answer.number == 0 && h->last.answer.offset == at + piece_len;
+    }
+    return going;
+}
+
+static void check_whole(const char *name, size_t length) {
+    host h = begin();
+    report(name, "going on", feed(&h, 0, LOG_LEN, length));
+    finish(&h);
+    check_host(name, &h, answer(0, 4, LOG_LEN, 0));
+}
+
+/* As trabeculon_read_log says, whatever the first bytes are. */
+static void check_every_front(void) {
+    int same = 1;
+    for (size_t length = 0; length <= LOG_LEN; length++) {
+        uint8_t run[RUN_LEN];
+        trabeculon_answer want = trabeculon_read_log(log_bytes, length, run, sizeof run);
+        host h = begin();
+        feed(&h, 0, length, 5);
+        finish(&h);
+        same = same && same_answer(h.last.answer, want) && h.line_len == 2 * want.words
+            && memcmp(h.line, run, h.line_len) == 0;
+    }
+    report("every front of the log", "as read whole", same);
+}
+
+/* Saved in the middle of a record, and gone on with by another host. */
+static void check_saved(void) {
+    uint8_t saved[sizeof(trabeculon_reader)];
+    host h = begin();
+    feed(&h, 0, 80, 7);
+    memcpy(saved, &h.last.reader, sizeof saved);
+    host other = h;
+    memset(&other.last, 0xFF, sizeof other.last);
+    memcpy(&other.last.reader, saved, sizeof saved);
+    feed(&other, 80, LOG_LEN, 13);
+    finish(&other);
+    check_host("saved and gone on with", &other, answer(0, 4, LOG_LEN, 0));
+}
+
+/* After a refusal and after the end. */
+static void check_kept(const char *name, host h) {
+    trabeculon_piece_read before = h.last;
+    size_t line_len = h.line_len;
+    take_piece(&h, log_bytes, LOG_LEN, RUN_LEN);
+    report(name, "a piece gets it again",
+           same_answer(h.last.answer, before.answer) && same_reader(h.last.reader, before.reader));
+    finish(&h);
+    report(name, "an end gets it again",
+           same_answer(h.last.answer, before.answer) && same_reader(h.last.reader, before.reader));
+    report(name, "nothing written", h.clean && h.line_len == line_len);
+}
+
+static void check_refusals(void) {
+    host h = begin();
+    finish(&h);
+    check_host("no byte at all", &h, answer(6, 0, 0, 0));
+
+    h = begin();
+    feed(&h, 0, 98, 7);
+    finish(&h);
+    check_host("cut in a body", &h, answer(6, 2, 86, 1));
+    check_kept("cut in a body, after it", h);
+
+    /* The words don't fit into the run of the piece that brings them. */
+    h = begin();
+    feed(&h, 0, 33, 11);
+    take_piece(&h, log_bytes + 33, 1, 1);
+    check_host("run too short", &h, answer(8, 0, 21, 1));
+    check_kept("run too short, after it", h);
+
+    /* A wrong tag is told with its record's last byte, not before. */
+    const uint8_t wrong[4] = {9, 0, 1, 0};
+    h = begin();
+    take_piece(&h, wrong, 3, RUN_LEN);
+    check_host("wrong tag, not whole", &h, answer(0, 0, 3, 0));
+    take_piece(&h, wrong + 3, 1, RUN_LEN);
+    check_host("wrong tag, whole", &h, answer(7, 0, 0, 0));
+
+    /* An empty piece changes nothing. */
+    h = begin();
+    feed(&h, 0, 20, 20);
+    trabeculon_piece_read before = h.last;
+    take_piece(&h, log_bytes, 0, 0);
+    report("empty piece", "as before", memcmp(&h.last, &before, sizeof before) == 0);
+
+    /* 14 bytes before the longest log: a record fits, one byte more does not. */
+    h = begin();
+    feed(&h, 0, 21, 21);
+    h.last.reader.offset = LONGEST_LOG - 14;
+    take_piece(&h, log_bytes + 21, 15, RUN_LEN);
+    check_host("past the longest log", &h, answer(9, 0, LONGEST_LOG, 1));
+    check_kept("past the longest log, after it", h);
+}
+
+static void check_2(const char *name, trabeculon_reader reader) {
+    host h = begin();
+    h.last.reader = reader;
+    take_piece(&h, log_bytes, LOG_LEN, RUN_LEN);
+    check_host(name, &h, answer(2, 0, 0, 0));
+    report(name, "reader as given", same_reader(h.last.reader, reader));
+    trabeculon_piece_read ended = trabeculon_reader_end(reader);
+    report(name, "the same of the end",
+           same_answer(ended.answer, answer(2, 0, 0, 0)) && same_reader(ended.reader, reader));
+}
+
+static void check_no_readers(void) {
+    trabeculon_reader reader;
+    memset(&reader, UNTOUCHED, sizeof reader);
+    check_2("garbage", reader);
+
+    reader = trabeculon_reader_fresh();
+    reader.number = 1;
+    check_2("a number that is not told", reader);
+
+    reader = trabeculon_reader_fresh();
+    reader.told = 2;
+    check_2("told 2", reader);
+
+    reader = trabeculon_reader_fresh();
+    reader.told = 1;
+    reader.number = 2;
+    check_2("told the number 2", reader);
+
+    reader = trabeculon_reader_fresh();
+    reader.machine.last = 1;
+    check_2("neither a machine nor zeros", reader);
+
+    reader = trabeculon_reader_fresh();
+    reader.count = 3;
+    check_2("a whole record not read", reader);
+
+    reader = trabeculon_reader_fresh();
+    reader.words = 1;
+    check_2("words out of no bytes", reader);
+
+    reader = trabeculon_reader_fresh();
+    reader.offset = LONGEST_LOG + 1;
+    check_2("longer than the longest log", reader);
+}
+
+static void check_fresh(void) {
+    trabeculon_reader zeros;
+    memset(&zeros, 0, sizeof zeros);
+    report("fresh reader", "every number 0", same_reader(trabeculon_reader_fresh(), zeros));
+}
+
+/* Bits above the bytes that came say nothing. */
+static void check_stray_bits(void) {
+    host h = begin();
+    feed(&h, 0, 25, 25); /* four bytes of the third record came */
+    h.last.reader.header |= (uint64_t)0xFF << 24;
+    h.last.reader.front |= (uint64_t)0xFF << 8;
+    h.last.reader.tail = UINT64_MAX;
+    feed(&h, 25, LOG_LEN, 1);
+    finish(&h);
+    check_host("stray bits", &h, answer(0, 4, LOG_LEN, 0));
+}
+
+static int read_file(const char *path) {
+    FILE *file = fopen(path, "rb");
+    if (file == NULL) {
+        return 0;
+    }
+    size_t length = fread(log_bytes, 1, LOG_LEN, file);
+    int whole = length == LOG_LEN && fgetc(file) == EOF;
+    fclose(file);
+    return whole;
+}
+
+int main(int argc, char **argv) {
+    const char *path = argc > 1 ? argv[1] : "examples/saigai.log";
+    if (!read_file(path)) {
+        fprintf(stderr, "%s cannot be read, or is not the log of document 01\n", path);
+        return 2;
+    }
+    check_fresh();
+    check_whole("pieces of 1 byte", 1);
+    check_whole("pieces of 7 bytes", 7);
+    check_whole("pieces of 13 bytes", 13);
+    check_whole("one piece", LOG_LEN);
+    check_every_front();
+    check_saved();
+    check_refusals();
+    check_no_readers();
+    check_stray_bits();
+    printf("%d failed\n", failures);
+    return failures == 0 ? 0 : 1;
+}
