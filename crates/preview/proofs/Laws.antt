@@ -25,7 +25,7 @@ mark-sign Left = refl
 mark-sign Right = refl
 
 -- an item's word by document 01's rows is its sign
-by-rows : (i : Item) → sign-unless-0 (word-in rows i) ≡ sign-of i
+pub by-rows : (i : Item) → sign-unless-0 (word-in rows i) ≡ sign-of i
 unfolding character
 by-rows (Character k f) = ap sign-unless-0 (in-rows k f)
 by-rows (Mark O) = mark-sign O
