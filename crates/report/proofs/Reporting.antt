@@ -168,7 +168,7 @@ reached-number r d =
     rw (last-formed r (s .well)) (never-2 (end r .told) (length (end r .pending)) (ended .told), end-eight r (s .eight))
 
 abbrev pub Small : LogAnswer → Type 0
-Small a = (a .number < 10) × (a .waiting < 10) × (a .offset < 10000000000000)
+Small a = (a .number < 10) × (a .waiting < 10) × (a .offset < 10_000_000_000_000)
 
 small-answer : (r : pieces.Reader) → Formed r → Small (answer r)
 small-answer r f = (
