@@ -4,14 +4,14 @@ use native.Mathlib.Omega.{arith}
 use borrow.Author.Tests.{le-leb}
 use mathlib.Core.Bool.{true}
 use mathlib.Core.List.{List}
-use mathlib.Core.Option.{Option, none, some, Option·some-injective}
+use mathlib.Core.Option.{none, some, Option·some-injective}
 use mathlib.Core.Path.{_≡_, refl, sym, ap, _∙_}
 use lib.Dec.{leb}
 use lib.ListN.{length, take}
 use lib.Seq.{length-take-le}
 use Rattle.keylog.specs.Pieces as pieces
 use Rattle.keylog.specs.Pieces.{longest-log, so-far}
-use Rattle.pieces.specs.Views.{reader-of, told-of}
+use Rattle.pieces.specs.Views.{reader-of}
 use Rattle.pieces.specs.declared.reader.Reader.{Reader}
 use Rattle.report.specs.Printed.{closing}
 use Rattle.report.specs.Played.{buffer, text-room, played, brought, last, fits, shown-of, Shows, Shown-within, Closes, Ending-within}
@@ -25,7 +25,7 @@ use Rattle.input.specs.declared.Piece.{Piece}
 use Rattle.input.specs.declared.Piece.the-variants.{Bytes}
 use Rattle.play.specs.Turns.{Has-text, Has-end, Turns, Leaves}
 use Rattle.play.specs.declared.Turn.{Turn}
-use Rattle.play.specs.declared.Turn.the-variants.{More, Refused, Failed}
+use Rattle.play.specs.declared.Turn.the-variants.{More, Refused}
 
 -- a piece that fits, and a run that has room
 module _ (r : pieces.Reader) (bytes run : List ℕ) (a : Shown.Shown) (after : List ℕ)
