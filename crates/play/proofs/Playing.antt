@@ -4,14 +4,14 @@ use native.Mathlib.Omega.{arith}
 use borrow.Author.Tests.{le-leb}
 use mathlib.Core.Bool.{true}
 use mathlib.Core.List.{List}
-use mathlib.Core.Option.{Option, none, some, Option·some-injective}
+use mathlib.Core.Option.{none, some, Option·some-injective}
 use mathlib.Core.Path.{_≡_, refl, sym, ap, _∙_}
 use lib.Dec.{leb}
 use lib.ListN.{length, take}
 use lib.Seq.{length-take-le}
 use Rattle.keylog.specs.Pieces as pieces
 use Rattle.keylog.specs.Pieces.{longest-log, so-far}
-use Rattle.pieces.specs.Views.{reader-of, told-of}
+use Rattle.pieces.specs.Views.{reader-of}
 use Rattle.pieces.specs.declared.reader.Reader.{Reader}
 use Rattle.report.specs.Printed.{closing}
 use Rattle.report.specs.Played.{buffer, text-room, played, brought, last, fits, shown-of, Shows, Shown-within, Closes, Ending-within}
@@ -25,11 +25,11 @@ use Rattle.input.specs.declared.Piece.{Piece}
 use Rattle.input.specs.declared.Piece.the-variants.{Bytes}
 use Rattle.play.specs.Turns.{Has-text, Has-end, Turns, Leaves}
 use Rattle.play.specs.declared.Turn.{Turn}
-use Rattle.play.specs.declared.Turn.the-variants.{More, Refused, Failed}
+use Rattle.play.specs.declared.Turn.the-variants.{More, Refused}
 
 -- a piece that fits, and a run that has room
-module _ (r : pieces.Reader) (bytes run : List ℕ) (a : Shown.Shown) (after : List ℕ) (short : length bytes ≤ buffer) (room : text-room ≤ length run)
-    (s : Shows r bytes run a after) where
+module _ (r : pieces.Reader) (bytes run : List ℕ) (a : Shown.Shown) (after : List ℕ)
+    (short : length bytes ≤ buffer) (room : text-room ≤ length run) (s : Shows r bytes run a after) where
   read : shown-of a ≡ some (played r bytes .reader, length (brought r bytes))
   read =
       let t : fits bytes run ≡ true = rw (le-leb (length bytes) buffer short, le-leb text-room (length run) room) in
@@ -49,7 +49,8 @@ module _ (r : pieces.Reader) (bytes run : List ℕ) (a : Shown.Shown) (after : L
           → Turns (played r bytes .reader) turn
       by Shown.the-variants.Unread e v = let z : _≡_ {A = ℕ} 0 1 = cc in absurd (omega arith)
       by (Shown.the-variants.Text next k) e v =
-          let same : reader-of next ≡ played r bytes .reader = ap (λ p. p .0) (Option·some-injective (reader-of next, k) (played r bytes .reader, length (brought r bytes)) e) in
+          let both = Option·some-injective (reader-of next, k) (played r bytes .reader, length (brought r bytes)) e in
+          let same : reader-of next ≡ played r bytes .reader = ap (λ p. p .0) both in
           rw same at v
 
 -- the end, at a reader that the program got hold of
@@ -60,8 +61,8 @@ end-shown r run a after n d room s w = by a (rw t at (s .answered)) w
     t : leb text-room (length run) ≡ true
     t = le-leb text-room (length run) room
 
-    by : (b : Ending.Ending) → b ≡ Ending.the-variants.Text (length (closing (last r))) (last r .number) (last r .offset) → Ending-within n b
-        → Has-end n b
+    by : (b : Ending.Ending) → b ≡ Ending.the-variants.Text (length (closing (last r))) (last r .number) (last r .offset)
+        → Ending-within n b → Has-end n b
     by Ending.the-variants.Full e v = let z : _≡_ {A = ℕ} 0 1 = cc in omega arith
     by (Ending.the-variants.Text bytes number offset) e v =
         let same : number ≡ last r .number = cc in
@@ -98,7 +99,8 @@ module _ (log out : List ℕ) (r : pieces.Reader) (g : Going-on log out r) (now 
   led-to : (next : Reader) → reader-of next ≡ played r (take n now) .reader → Reached (reader-of next)
   led-to next same = rw same (reached-more r (take n now) (g .reached) fits-buffer)
 
-  pub was-refused : (turn : Turn) (next : Reader) → turn ≡ Refused next → Turns (played r (take n now) .reader) turn → Reached (reader-of next)
+  pub was-refused : (turn : Turn) (next : Reader) → turn ≡ Refused next → Turns (played r (take n now) .reader) turn
+      → Reached (reader-of next)
   was-refused turn next e t = led-to next (rw e at t)
 
   pub goes-on : (turn : Turn) (next : Reader) (text : List ℕ) → turn ≡ More next → Turns (played r (take n now) .reader) turn

@@ -1,5 +1,5 @@
 -- The proof that what is printed does not depend on how the input was cut.
-use Prim.Native.Nat.{ℕ, _+_, _*_, _≤_, _<_}
+use Prim.Native.Nat.{ℕ, _+_, _≤_, _<_}
 use native.Mathlib.Nat.{add-zero}
 use native.Mathlib.Omega.{arith}
 use mathlib.Core.Bool.{true}
@@ -7,14 +7,15 @@ use mathlib.Core.List.{List, [], _∷_, _++_, append-assoc, append-nil}
 use mathlib.Core.Logic.{_≢_}
 use mathlib.Core.Option.{Option, none, some}
 use mathlib.Core.Path.{_≡_, refl, sym, ap, _∙_}
-use lib.ListN.{length, length-append}
+use lib.ListN.{length}
 use Rattle.rules.specs.Choice.{if_then_else_}
 use Rattle.rules.proofs.Choices.{both-ways}
 use Rattle.text.specs.Text.{text}
 use Rattle.text.proofs.Signs.{text-append}
 use Rattle.keylog.specs.Reader.{read, is-cut, number-of}
 use Rattle.keylog.specs.HoweverCut.{AsWhole, Enough}
-use Rattle.keylog.specs.Pieces.{longest-log, Reader, start, so-far, formed, answer, Given, tell, unless-told, piece, end, Piece, log-of, feed, fed}
+use Rattle.keylog.specs.Pieces.{longest-log, Reader, start, so-far, formed, answer, Given, tell, unless-told, piece, end}
+use Rattle.keylog.specs.Pieces.{Piece, log-of, feed, fed}
 use Rattle.keylog.proofs.HoweverCut.{however-cut}
 use Rattle.keylog.proofs.PieceFacts.{piece-facts}
 use Rattle.keylog.proofs.ReaderFormed.{formed-facts}
@@ -81,7 +82,10 @@ unfolding end
 end-eight r h = by-told (r .told) refl
   where
     by-told : (f : Option ℕ) → r .told ≡ f
-        → number-of (unless-told r f (record { reader = tell r (if is-cut (r .machine) (r .pending) then 6 else 0) (r .offset); words = [] }) .reader .told) ≢ 8
+        → number-of
+        (unless-told r f
+        (record { reader = tell r (if is-cut (r .machine) (r .pending) then 6 else 0) (r .offset); words = [] }) .reader .told)
+        ≢ 8
     by-told none e = both-ways (λ (k : ℕ). k ≢ 8) (is-cut (r .machine) (r .pending)) (λ z. omega arith) (λ z. omega arith)
     by-told (some k) e = λ z. h (e ∙ ap some (ap number-of (sym e) ∙ z))
 
@@ -136,4 +140,10 @@ module _ (ps : List (List ℕ)) (fit : Fit ps) where
       (ap (λ l. text (read (length (joined ps)) (joined ps) .words) ++ l) (closing-9 (g .reader) longest-log (last-told nine 9 refl well)))
 
 pub however-played : HoweverPlayed
-however-played = record { as-whole = as-whole; never-8 = never-8; stops = λ r n ps told. stops r n told ps; past-longest = λ ps bytes more fit. past-longest ps fit bytes more }
+however-played =
+    record {
+      as-whole = as-whole;
+      never-8 = never-8;
+      stops = λ r n ps told. stops r n told ps;
+      past-longest = λ ps bytes more fit. past-longest ps fit bytes more;
+    }

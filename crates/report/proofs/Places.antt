@@ -1,5 +1,5 @@
 -- The digits that `io::decimal` makes of a number below 10^13 are its `decimal`.
-use Prim.Native.Nat.{ℕ, zero, suc, _+_, _-_, _*_, _/_, _^_, _≤_, _<_}
+use Prim.Native.Nat.{ℕ, zero, suc, _+_, _-_, _/_, _^_, _≤_, _<_}
 use native.Mathlib.Nat.{pow-suc, one-le-pow}
 use native.Mathlib.Omega.{arith}
 use borrow.Author.Tests.{lt-ltb, le-ltb}
@@ -48,18 +48,18 @@ pub decimal-short : (n : ℕ) → length (decimal n) ≤ 13
 unfolding decimal
 decimal-short n = rw (length-digits 10 (places 12 n) n) (places-few 12 n)
 
-pub decimal-digits : (n k : ℕ) (bytes : List ℕ) → n < 10000000000000 → Fewest 10 1 n k → bytes ≡ digits 10 k n → bytes ≡ decimal n
+pub decimal-digits : (n k : ℕ) (bytes : List ℕ) → n < 10_000_000_000_000 → Fewest 10 1 n k → bytes ≡ digits 10 k n → bytes ≡ decimal n
 unfolding decimal
 decimal-digits n k bytes h f e = e ∙ ap (λ (j : ℕ). digits 10 j n) (fewest 12 n k h f)
 
 -- the same of what `put_bytes` stores
 pub stored-decimal : (n k at : ℕ) (bytes run : List ℕ) (r : ℕ) (after : List ℕ)
-    → n < 10000000000000 → Fewest 10 1 n k → bytes ≡ digits 10 k n → Stored at bytes run r after
+    → n < 10_000_000_000_000 → Fewest 10 1 n k → bytes ≡ digits 10 k n → Stored at bytes run r after
     → Stored at (decimal n) run r after × (r ≤ at + 13)
 stored-decimal n k at bytes run r after h f e s =
     let t : Stored at (decimal n) run r after = rw (← decimal-digits n k bytes h f e) s in
     (t, omega (arith, t .behind, decimal-short n))
 
 pub decimal-fits : (n k at room : ℕ) (bytes : List ℕ)
-    → n < 10000000000000 → Fewest 10 1 n k → bytes ≡ digits 10 k n → at + 13 ≤ room → at + length bytes ≤ room
+    → n < 10_000_000_000_000 → Fewest 10 1 n k → bytes ≡ digits 10 k n → at + 13 ≤ room → at + length bytes ≤ room
 decimal-fits n k at room bytes h f e fits = rw (decimal-digits n k bytes h f e) (omega (arith, decimal-short n))

@@ -1,5 +1,5 @@
 -- What the functions on a piece and on the end store, put together from its parts, and the room that it takes.
-use Prim.Native.Nat.{ℕ, _+_, _-_, _*_, _≤_, _<_}
+use Prim.Native.Nat.{ℕ, _+_, _-_, _≤_, _<_}
 use native.Mathlib.Omega.{arith}
 use native.Mathlib.Nat.{zero-add}
 use borrow.Author.Tests.{le-leb, lt-leb, leb-true, eqb-false}
@@ -23,7 +23,7 @@ use Rattle.text.proofs.Signs.{text-short}
 use Rattle.keylog.specs.Reader.{number-of, waiting-of}
 use Rattle.keylog.specs.Runs.{as-it-is, encoded}
 use Rattle.keylog.specs.Pieces as pieces
-use Rattle.keylog.specs.Pieces.{longest-log, formed, told-formed, Formed, answer, Given, piece, end}
+use Rattle.keylog.specs.Pieces.{formed, told-formed, Formed, answer, Given, piece, end}
 use Rattle.keylog.specs.declared.LogAnswer.{LogAnswer}
 use Rattle.keylog.proofs.PieceFacts.{piece-facts}
 use Rattle.keylog.proofs.ReaderFormed.{formed-facts}
@@ -168,7 +168,7 @@ reached-number r d =
     rw (last-formed r (s .well)) (never-2 (end r .told) (length (end r .pending)) (ended .told), end-eight r (s .eight))
 
 abbrev pub Small : LogAnswer → Type 0
-Small a = (a .number < 10) × (a .waiting < 10) × (a .offset < 10000000000000)
+Small a = (a .number < 10) × (a .waiting < 10) × (a .offset < 10_000_000_000_000)
 
 small-answer : (r : pieces.Reader) → Formed r → Small (answer r)
 small-answer r f = (

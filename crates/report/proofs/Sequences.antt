@@ -2,7 +2,7 @@
 use Prim.Native.Nat.{ℕ, _+_, _≤_, _<_}
 use native.Mathlib.Nat.{zero-add, add-zero}
 use native.Mathlib.Omega.{arith}
-use borrow.Author.Tests.{ltb-true, ltb-false}
+use borrow.Author.Tests.{ltb-true}
 use mathlib.Core.Bool.{true}
 use mathlib.Core.List.{List, [], _∷_, _++_}
 use mathlib.Core.Logic.{_≢_}
@@ -55,6 +55,9 @@ told-apart n r bytes short s = by-told (r .told) refl
     small : (f : Option ℕ) → number-of f ≤ 7 → Apart (n + length bytes) f
     small f h = ((λ e. omega (arith, ap number-of e)), (λ _ e. omega (arith, ap number-of e)))
 
+    by-nine : longest-log < so-far r + length bytes → so-far r ≡ n → Apart (n + length bytes) (some 9)
+    by-nine past counted = ((λ z. omega (arith, ap number-of z)), (λ within _. omega arith))
+
     by-told : (f : Option ℕ) → r .told ≡ f
         → Apart (n + length bytes)
         (unless-told r f
@@ -62,7 +65,7 @@ told-apart n r bytes short s = by-told (r .told) refl
         else walked r (walk (read-record word-room) (place r) bytes)) .reader .told)
     by-told none e =
         by-test (λ (g : Given). Apart (n + length bytes) (g .reader .told)) (ltb longest-log (so-far r + length bytes))
-        (λ past. ((λ z. omega (arith, ap number-of z)), (λ within _. omega (arith, ltb-true longest-log (so-far r + length bytes) past, s .bytes e))))
+        (λ past. by-nine (ltb-true longest-log (so-far r + length bytes) past) (s .bytes e))
         (λ _. small _ (small-number r bytes short e))
     by-told (some k) e = (s .eight, λ within. s .nine (omega arith))
 
@@ -119,7 +122,8 @@ reached-more r bytes d short =
     }
 
 -- while nothing is told the bytes are counted, and they are never more than the longest log has
-pub reached-counts : (r : Reader) (bytes : List ℕ) → Reached r → length bytes ≤ buffer → r .told ≡ none → played r bytes .reader .told ≡ none
+pub reached-counts : (r : Reader) (bytes : List ℕ) → Reached r → length bytes ≤ buffer → r .told ≡ none
+    → played r bytes .reader .told ≡ none
     → (so-far (played r bytes .reader) ≡ so-far r + length bytes) × (so-far (played r bytes .reader) ≤ longest-log)
 reached-counts r bytes d short going more =
     let s = reached-sound r d in

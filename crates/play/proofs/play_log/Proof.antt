@@ -42,7 +42,8 @@ loop-less c =
     let r = p .before .before .before .before .before .before .before .before in
     let l = r .before .before in
     let bytes = taken _ _ _ (p .before .before .before .before .n .given .1) (r .read-piece .ensures) in
-    goes-on _ _ _ (l .loop .inv) (r .read-piece .last .0) _ (r .read-piece .kept .0) bytes (p .play-piece .result) _ (p .play-piece .last .1 .1 .0)
+    goes-on _ _ _ (l .loop .inv) (r .read-piece .last .0) _ (r .read-piece .kept .0) bytes
+    (p .play-piece .result) _ (p .play-piece .last .1 .1 .0)
     (c .before .next .given .1) (p .play-piece .ensures) (p .play-piece .kept .1 .1 .0) .1
 
 loop-again : tie.Need-loop-again Inv-loop μ-loop
@@ -51,7 +52,8 @@ loop-again c =
     let r = p .before .before .before .before .before .before .before .before in
     let l = r .before .before in
     let bytes = taken _ _ _ (p .before .before .before .before .n .given .1) (r .read-piece .ensures) in
-    goes-on _ _ _ (l .loop .inv) (r .read-piece .last .0) _ (r .read-piece .kept .0) bytes (p .play-piece .result) _ (p .play-piece .last .1 .1 .0)
+    goes-on _ _ _ (l .loop .inv) (r .read-piece .last .0) _ (r .read-piece .kept .0) bytes
+    (p .play-piece .result) _ (p .play-piece .last .1 .1 .0)
     (c .before .next .given .1) (p .play-piece .ensures) (p .play-piece .kept .1 .1 .0) .0
 
 finish-requires : tie.Need-finish-requires Inv-loop μ-loop
@@ -66,29 +68,36 @@ finish-requires c κs =
     )
 
 finish-requires-2 : tie.Need-finish-requires-2 Inv-loop μ-loop
-finish-requires-2 c κs = let l = c .before .before .before .before .before .before .before in (l .loop .inv .reached, omega (arith, l .loop .inv .out-long))
+finish-requires-2 c κs =
+    let l = c .before .before .before .before .before .before .before in
+    (l .loop .inv .reached, omega (arith, l .loop .inv .out-long))
 
 same-length : tie.Need-same-length Inv-loop μ-loop
 same-length c =
-    let r = c .before .before .before .before .before .before .before .before .before .before .before .before .before .before .before .before .before in
+    let p = c .before .before .before .before .before .before .before .before .before in
+    let r = p .before .before .before .before .before .before .before .before in
     let l = r .before .before in
     r .read-piece .kept .0 ∙ l .loop .inv .log-long ∙ l .before .before .before .before .pre .0
 
 same-length-2 : tie.Need-same-length-2 Inv-loop μ-loop
 same-length-2 c =
-    let l = c .before .before .before .before .before .before .before .before .before .before .before .before .before .before .before .before .before .before .before in
-    c .before .before .finish .kept .1 .0 ∙ c .before .before .before .before .before .before .before .before .before .play-piece .kept .1 .1 .0 ∙ l .loop .inv .out-long ∙ l .before .before .before .before .pre .1
+    let p = c .before .before .before .before .before .before .before .before .before in
+    let l = p .before .before .before .before .before .before .before .before .before .before in
+    let o = l .before .before .before .before in
+    c .before .before .finish .kept .1 .0 ∙ p .play-piece .kept .1 .1 .0 ∙ l .loop .inv .out-long ∙ o .pre .1
 
 same-length-3 : tie.Need-same-length-3 Inv-loop μ-loop
 same-length-3 c =
-    let r = c .before .before .before .before .before .before .before .before .before .before .before .before in
+    let p = c .before .before .before .before in
+    let r = p .before .before .before .before .before .before .before .before in
     let l = r .before .before in
     r .read-piece .kept .0 ∙ l .loop .inv .log-long ∙ l .before .before .before .before .pre .0
 
 same-length-4 : tie.Need-same-length-4 Inv-loop μ-loop
 same-length-4 c =
-    let l = c .before .before .before .before .before .before .before .before .before .before .before .before .before .before in
-    c .before .before .before .before .play-piece .kept .1 .1 .0 ∙ l .loop .inv .out-long ∙ l .before .before .before .before .pre .1
+    let p = c .before .before .before .before in
+    let l = p .before .before .before .before .before .before .before .before .before .before in
+    p .play-piece .kept .1 .1 .0 ∙ l .loop .inv .out-long ∙ l .before .before .before .before .pre .1
 
 same-length-5 : tie.Need-same-length-5 Inv-loop μ-loop
 same-length-5 c =

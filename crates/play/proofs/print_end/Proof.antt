@@ -11,7 +11,8 @@ slice-aggregate-write-all c =
 
 explain-requires : tie.Need-explain-requires
 explain-requires c κs =
-    let has = rw (c .before .before .before .before .ending .given .1) at (c .before .before .before .before .before .before .before .pre) in
+    let e = c .before .before .before .before in
+    let has = rw (e .ending .given .1) at (e .before .before .before .pre) in
     (has .1, has .2)
 
 pub print-end-spec : {M : Type 1} → statement M

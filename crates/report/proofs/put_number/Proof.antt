@@ -1,8 +1,20 @@
--- `report::put_number` meets its contract.
+-- `report::put_number` meets its contract: `d` is the place behind the digits.
 use borrow.Author.Needs.{needs}
 use Rattle.report.proofs.Places.{stored-decimal, decimal-fits}
 use Rattle.report.proofs.put_number.Statement.{statement}
 use Rattle.report.proofs.put_number.Tie as tie
+
+put-bytes-requires : tie.Need-put-bytes-requires
+put-bytes-requires c κs =
+    let d = c .before .before in
+    let o = d .before .before .before in
+    decimal-fits _ _ _ _ _ (o .pre .0) (d .decimal .ensures .1 .0) (d .decimal .ensures .1 .1) (o .pre .1)
+
+returns : tie.Need-returns
+returns c =
+    let d = c .before .before .before .before .before in
+    let o = d .before .before .before in
+    stored-decimal _ _ _ _ _ _ _ (o .pre .0) (d .decimal .ensures .1 .0) (d .decimal .ensures .1 .1) (c .before .before .put-bytes .ensures)
 
 pub put-number-spec : {M : Type 1} → statement M
 put-number-spec =
@@ -11,6 +23,6 @@ put-number-spec =
     (λ c κs. search needs)
     (λ c. search needs)
     (λ c. search needs)
-    (λ c κs. decimal-fits _ _ _ _ _ (c .before .before .before .before .before .pre .0) (c .before .before .decimal .ensures .1 .0) (c .before .before .decimal .ensures .1 .1) (c .before .before .before .before .before .pre .1))
+    put-bytes-requires
     (λ c. search needs)
-    (λ c. stored-decimal _ _ _ _ _ _ _ (c .before .before .before .before .before .before .before .before .pre .0) (c .before .before .before .before .before .decimal .ensures .1 .0) (c .before .before .before .before .before .decimal .ensures .1 .1) (c .before .before .put-bytes .ensures)))
+    returns)
