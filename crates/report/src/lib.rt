@@ -94,7 +94,7 @@ fn put_report(out: &mut [u8], log: &[u8]) -> Answer
     ensures { λ r. ⌜ Within (length (now (out .entry))) r ⌝ }
 {
     let mut words = word_buffer();
-    let read = keylog::read_log(log, &mut words);
+    let read = pieces::read_log(log, &mut words);
     let n = read.words;
     let line = put_line(out, &words[..n]);
     let next = put_bytes(out, line, b"\n");
