@@ -500,7 +500,7 @@ trabeculon_reader trabeculon_reader_fresh(void);
  * Reads a piece of a log, in the form that trabeculon_read_log reads, and
  * writes the words of the records whose last byte it brings into a lent run of
  * bytes, two bytes a word, high byte first. The run has room for out_len / 2
- * words.
+ * words. 4 * (piece_len / 13 + 2) bytes always suffice.
  *
  * Afterwards, whatever the number:
  *   - the first bytes of out hold those words, in order: answer.words less the
@@ -515,7 +515,8 @@ trabeculon_reader trabeculon_reader_fresh(void);
  *
  * Proved: the answer, the reader and the run afterwards (GivesPiece,
  * host/specs/InPieces.antt, over piece, keylog/specs/Pieces.antt); 9, and what
- * the totals count (PieceFacts, keylog/specs/PieceFacts.antt).
+ * the totals count (PieceFacts, keylog/specs/PieceFacts.antt); that a run of so
+ * many bytes suffices (room-suffices and never-8 in InPiecesFacts).
  */
 trabeculon_piece_read trabeculon_reader_piece(trabeculon_reader reader,
                                               const uint8_t *piece,

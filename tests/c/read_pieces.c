@@ -97,13 +97,13 @@ static void check_host(const char *name, const host *h, trabeculon_answer want) 
     report(name, "runs untouched besides", h->clean);
 }
 
-/* The log from a place to another in pieces of one length. Before the end each
- * answer is 0 and the bytes so far. */
+/* The log from a place to another in pieces of one length, each with a run that
+ * suffices. Before the end each answer is 0 and the bytes so far. */
 static int feed(host *h, size_t from, size_t to, size_t length) {
     int going = 1;
     for (size_t at = from; at < to; at += length) {
         size_t piece_len = to - at < length ? to - at : length;
-        take_piece(h, log_bytes + at, piece_len, RUN_LEN);
+        take_piece(h, log_bytes + at, piece_len, 4 * (piece_len / 13 + 2));
         going = going && h->last.answer.number == 0 && h->last.answer.offset == at + piece_len;
     }
     return going;
