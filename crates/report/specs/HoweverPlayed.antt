@@ -1,5 +1,5 @@
 -- Document 02, 5/12: what the program prints does not depend on how its input was cut into pieces, and is what document 01 says of the
--- whole log; and it never prints 8. The proofs are proofs/Sequences.antt and proofs/HoweverPlayed.antt.
+-- whole log; and it never prints 8. The proofs are proofs/Enough.antt (the room), proofs/Sequences.antt and proofs/HoweverPlayed.antt.
 use Prim.Native.Nat.{ℕ, _+_, _≤_, _<_}
 use mathlib.Core.List.{List, [], _∷_, _++_}
 use mathlib.Core.Logic.{_≢_}
