@@ -6,12 +6,13 @@
 //!
 //! Single calls: a fixed set that tries every place of a reader's numbers, then COUNT
 //! random readers, well formed or not. Logs: a fixed set of whole ones and of ones
-//! damaged at every place, then a quarter of COUNT random ones. The whole ones and the
-//! short ones are cut at every place, and each is cut at random, into pieces of any
-//! length, with runs that are too short now and then. After every piece and at the end
-//! the library's reader of whole logs must say the same, until an 8; and calls after
-//! the end are tried. Exit 0: all equal. Exit 1: a mismatch, printed. Exit 2: wrong
-//! arguments.
+//! damaged at every place, then a quarter of COUNT random ones. Each is cut at random,
+//! into pieces of any length, with runs that are too short now and then. The whole ones
+//! and the short random ones are cut at every place too; of the damaged ones some are,
+//! and each at one place, the next one at the next. After every piece and at the end
+//! the library's reader of whole logs must say the same, until an 8; and calls after a
+//! refusal and after the end are tried. Exit 0: all equal. Exit 1: a mismatch, printed.
+//! Exit 2: wrong arguments.
 
 use std::mem::size_of;
 use std::process::ExitCode;
@@ -78,7 +79,9 @@ const LOGS_FOR_A_LONG_ONE: u64 = 5_000;
 const LONG: usize = 70_000;
 /// Random logs up to this length are cut at every place.
 const SHORT: usize = 64;
-/// Of the damaged logs so many are cut at every place, of short ones more.
+/// So often each whole log is cut at random.
+const CUTS: usize = 100;
+/// One in so many of the damaged logs is cut at every place, of the short ones more.
 const LOGS_FOR_EVERY_CUT: usize = 500;
 const SHORT_LOGS_FOR_EVERY_CUT: usize = 20;
 /// A log's beginnings are read whole after each piece up to this length.
@@ -274,6 +277,7 @@ fn compare_whole_logs(arguments: &Arguments) -> Result<(), String> {
     for log in bytes.into_iter().map(<[u8]>::to_vec).chain(base_logs()) {
         compared.every_cut(&log)?;
         compared.log(&log, &vec![1; log.len()], Runs::Enough)?;
+        (0..CUTS).try_for_each(|_| compared.random_cut(&log, Runs::TooShort))?;
     }
     for log in base_logs().take(1) {
         compared.every_two_cuts(&log)?;
