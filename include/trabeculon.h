@@ -438,7 +438,7 @@ trabeculon_asked trabeculon_distance(trabeculon_machine machine, uint64_t stamp)
  *
  * It is 96 bytes with no padding.
  *
- * Proved: every reader has one form in numbers, which names it (ReadersBack,
+ * Proved: the numbers lose nothing of a reader and name it (ReadersBack,
  * host/specs/ReadersBack.antt, over reader-numbers and reader-named,
  * Readers.antt); which are well formed (formed, keylog/specs/Pieces.antt), and
  * that calls keep them so (piece-goes-on and end-goes-on in InPiecesFacts).
