@@ -12,7 +12,8 @@ use Rattle.waits.specs.Capped.{largest-number, since-at-most, later-at-most, la
 use Rattle.waits.proofs.Bounds.{Held, A-bound, B-bound, FJ-bound, FL-bound, lag-bound}
 use Rattle.waits.proofs.Below.{over-since}
 
-module _ (s : Settings) (held : Held s) (a now : Stamp) (holds : a .0 ≤ largest-number) (y : ℕ) (since : y ≡ since-at-most a now) (r : Bool) where
+module _ (s : Settings) (held : Held s) (a now : Stamp) (holds : a .0 ≤ largest-number)
+    (y : ℕ) (since : y ≡ since-at-most a now) (r : Bool) where
   pub over-A : r ≡ ltb (A s) y → r ≡ at-or-before (later-at-most a (A s)) now
   over-A e = e ∙ rw since (over-since a now (A s) holds (omega (arith, A-bound s held)))
 

@@ -14,13 +14,29 @@ use Rattle.rules.specs.declared.Resting.{Resting}
 use Rattle.rules.specs.declared.Resting.the-variants.{S1, S2, S3, S4, S5, S6}
 use Rattle.waits.specs.Capped.{later-at-most, lag-at-most, distance-at-most}
 
+-- the deadline of each state, from what it is worked out of
+abbrev pub until-S2 : Settings → Stamp → Option Stamp
+until-S2 s m = some (later-at-most m (A s))
+
+abbrev pub until-S3 : Settings → Stamp → Option Stamp
+until-S3 s o = if eqb (s .solo) 1 then some (later-at-most o (B s)) else none
+
+abbrev pub until-S4 : Settings → Stamp → Stamp → Option Stamp
+until-S4 s m o = some (later-at-most o (FJ s (lag-at-most (lag m o))))
+
+abbrev pub until-S5 : Settings → Stamp → Stamp → Option Stamp
+until-S5 s o m = some (later-at-most m (FL s (lag-at-most (min (lag o m) (B s)))))
+
+abbrev pub until-S6 : Stamp → Stamp → Option Stamp
+until-S6 m r = some (later-at-most r (lag m r))
+
 abbrev pub deadline-at-most : Settings → Resting → Option Stamp
 deadline-at-most s S1 = none
-deadline-at-most s (S2 M m) = some (later-at-most m (A s))
-deadline-at-most s (S3 O o) = if eqb (s .solo) 1 then some (later-at-most o (B s)) else none
-deadline-at-most s (S4 M m O o) = some (later-at-most o (FJ s (lag-at-most (lag m o))))
-deadline-at-most s (S5 O o M m) = some (later-at-most m (FL s (lag-at-most (min (lag o m) (B s)))))
-deadline-at-most s (S6 O o M m r) = some (later-at-most r (lag m r))
+deadline-at-most s (S2 M m) = until-S2 s m
+deadline-at-most s (S3 O o) = until-S3 s o
+deadline-at-most s (S4 M m O o) = until-S4 s m o
+deadline-at-most s (S5 O o M m) = until-S5 s o m
+deadline-at-most s (S6 O o M m r) = until-S6 m r
 
 -- the distance from now to such a deadline
 abbrev pub distance-to-at-most : Stamp → Option Stamp → Option ℤ

@@ -24,7 +24,7 @@ ghost use Rattle.rules.specs.States.{keys-below, stamps-by, in-order, well-form
 ghost use Rattle.rules.specs.OneEvent.{due-by};
 ghost use Rattle.rules.specs.Distance.{at-stamp, asking};
 ghost use Rattle.deadlines.specs.Views.{when, asked};
-ghost use Rattle.deadlines.specs.Capped.{deadline-at-most, distance-to-at-most};
+ghost use Rattle.deadlines.specs.Capped.{until-S2, until-S3, until-S4, until-S5, until-S6, deadline-at-most, distance-to-at-most};
 
 // The deadline of a resting state, if it has one. It does not leave this crate: a caller is told a distance.
 enum Due {
@@ -133,24 +133,53 @@ pub fn well_formed(machine: Machine) -> bool
     in_order(resting)
 }
 
-// Whether a resting state is due at a stamp. It is decided by products, since it is asked at every event: a wait is worked out
-// only of a thumb that was held long before M.
+// Whether each state is due at a stamp. It is decided by products, since it is asked at every event: a wait is worked out only of a
+// thumb that was held long before M.
+fn due_in_s2(s: Settings, now: Stamp, m: Stamp) -> bool
+    ensures { λ r. ⌜ r ≡ due-by now (until-S2 s m) ⌝ }
+{
+    character_wait_below(s, since(m, now))
+}
+
+fn due_in_s3(s: Settings, now: Stamp, o: Stamp) -> bool
+    ensures { λ r. ⌜ r ≡ due-by now (until-S3 s o) ⌝ }
+{
+    if s.solo == 1 {
+        thumb_wait_below(s, since(o, now))
+    } else {
+        false
+    }
+}
+
+fn due_in_s4(s: Settings, now: Stamp, m: Stamp, o: Stamp) -> bool
+    ensures { λ r. ⌜ r ≡ due-by now (until-S4 s m o) ⌝ }
+{
+    character_first_wait_below(s, lag(m, o), since(o, now))
+}
+
+fn due_in_s5(s: Settings, now: Stamp, o: Stamp, m: Stamp) -> bool
+    ensures { λ r. ⌜ r ≡ due-by now (until-S5 s o m) ⌝ }
+{
+    thumb_first_wait_below(s, lag(o, m), since(m, now))
+}
+
+fn due_in_s6(now: Stamp, m: Stamp, r: Stamp) -> bool
+    ensures { λ t. ⌜ t ≡ due-by now (until-S6 m r) ⌝ }
+{
+    at_or_before(later(r, lag(m, r)), now)
+}
+
+// Whether a resting state is due at a stamp.
 pub fn is_due(s: Settings, now: Stamp, resting: Resting) -> bool
     ensures { λ r. ⌜ r ≡ due-by now (deadline-at-most s resting) ⌝ }
 {
     match resting {
         Resting::S1 => false,
-        Resting::S2(_, m) => character_wait_below(s, since(m, now)),
-        Resting::S3(_, o) => {
-            if s.solo == 1 {
-                thumb_wait_below(s, since(o, now))
-            } else {
-                false
-            }
-        }
-        Resting::S4(_, m, _, o) => character_first_wait_below(s, lag(m, o), since(o, now)),
-        Resting::S5(_, o, _, m) => thumb_first_wait_below(s, lag(o, m), since(m, now)),
-        Resting::S6(_, _, _, m, r) => at_or_before(later(r, lag(m, r)), now),
+        Resting::S2(_, m) => due_in_s2(s, now, m),
+        Resting::S3(_, o) => due_in_s3(s, now, o),
+        Resting::S4(_, m, _, o) => due_in_s4(s, now, m, o),
+        Resting::S5(_, o, _, m) => due_in_s5(s, now, o, m),
+        Resting::S6(_, _, _, m, r) => due_in_s6(now, m, r),
     }
 }
 

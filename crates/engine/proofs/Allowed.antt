@@ -70,7 +70,8 @@ module _ (k : Key) where
 -- the number of keys, kind by kind
 module _ (kind : ℕ) where
   -- none of the arms before the last, as the code has it there
-  pub keys-of-other : (((((Unit {0} × (kind ≡ 1 → ⊥)) × (kind ≡ 2 → ⊥)) × (kind ≡ 3 → ⊥)) × (kind ≡ 4 → ⊥)) × (kind ≡ 5 → ⊥)) × (kind ≡ 6 → ⊥)
+  pub keys-of-other :
+      (((((Unit {0} × (kind ≡ 1 → ⊥)) × (kind ≡ 2 → ⊥)) × (kind ≡ 3 → ⊥)) × (kind ≡ 4 → ⊥)) × (kind ≡ 5 → ⊥)) × (kind ≡ 6 → ⊥)
       → 0 ≡ keys-of kind
   keys-of-other ((((((u, a), b), c), d), e), f) =
       rw (ne-eqb kind 1 a, ne-eqb kind 2 b, ne-eqb kind 3 c, ne-eqb kind 4 d, ne-eqb kind 5 e, ne-eqb kind 6 f)

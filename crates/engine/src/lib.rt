@@ -31,7 +31,7 @@ ghost use Rattle.preview.specs.Views.{Sends};
 ghost use Rattle.rules.specs.declared.Input.{Input};
 ghost use Rattle.effects.specs.Views.{done};
 ghost use Rattle.states.specs.Meant.{meant};
-ghost use Rattle.engine.specs.Views.{keys-of, judged, Changes, Gives, taken, apart-from-sent};
+ghost use Rattle.engine.specs.Views.{keys-of, judged, Changes, Gives, taken};
 ghost use Rattle.engine.specs.FormNotAsked.{judge-event, one-event-at-most, take-formed};
 
 // What an event gives back: the number, the items committed, what is sent, and the machine.
@@ -211,14 +211,4 @@ pub fn take_formed(machine: Machine, event: Event) -> Taken
     let items = done.items;
     let after = done.machine;
     Taken::Accepted(items, after)
-}
-
-// One event at any machine apart from what is sent, for a caller that shows nothing.
-pub fn take(machine: Machine, event: Event) -> Taken
-    ensures { λ r. ⌜ taken r ≡ apart-from-sent (step machine event) ⌝ }
-{
-    if !well_formed(machine) {
-        return Taken::Refused(2);
-    }
-    take_formed(machine, event)
 }

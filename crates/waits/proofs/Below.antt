@@ -2,7 +2,8 @@
 use mathlib.Core.Bool.{Bool, true, false}
 use mathlib.Core.Path.{_≡_, refl, sym}
 use Prim.Native.Nat.{ℕ, zero, suc, _+_, _-_, _*_, _/_, _≤_, _<_, min}
-use native.Mathlib.Nat.{div-zero, div-lt-iff-lt-mul, add-mul, one-mul, mul-one, mul-le-mul-left, mul-le-mul, min-eq-left, min-eq-right, min-le-left, min-le-right, le-min, lt-of-not-le}
+use native.Mathlib.Nat.{div-zero, div-lt-iff-lt-mul, add-mul, one-mul, mul-one, mul-le-mul-left, mul-le-mul, lt-of-not-le}
+use native.Mathlib.Nat.{min-eq-left, min-eq-right, min-le-left, min-le-right, le-min}
 use native.Mathlib.Decide.{decLe}
 use native.Mathlib.Omega.{arith}
 use lib.Dec.{ltb, leb}
@@ -86,7 +87,9 @@ over-since a now x h i = go (decLe largest-number (now .0))
 
     go : Dec (largest-number ≤ now .0)
         → ltb x (if ltb (now .0) largest-number then now .0 + 1 - a .0 else largest-number) ≡ leb (min (a .0 + x) largest-number) (now .0)
-    go (yes j) = rw (le-ltb (now .0) largest-number j, lt-ltb x largest-number i) (sym (le-leb _ (now .0) (omega (arith, min-le-right (a .0 + x) largest-number))))
+    go (yes j) =
+        rw (le-ltb (now .0) largest-number j, lt-ltb x largest-number i)
+        (sym (le-leb _ (now .0) (omega (arith, min-le-right (a .0 + x) largest-number))))
     go (no j) = rw (lt-ltb (now .0) largest-number (lt-of-not-le j)) (within (lt-of-not-le j) _ refl)
 
 -- what `share_below` multiplies

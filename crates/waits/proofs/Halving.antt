@@ -1,7 +1,8 @@
 -- Laws of a quotient by a divisor that is moved up by k bits and back down, one bit a turn.
 use mathlib.Core.Path.{_≡_, sym, ap, _∙_}
 use Prim.Native.Nat.{ℕ, zero, suc, _+_, _-_, _*_, _/_, _%_, _^_, _≤_, _<_}
-use native.Mathlib.Nat.{two-pow-succ, mul-one, one-mul, mul-add, add-mul, mul-le-mul, mul-le-mul-left, mul-le-mul-right, div-eq-of-lt-le, lt-of-not-le}
+use native.Mathlib.Nat.{two-pow-succ, mul-one, one-mul, mul-add, add-mul, mul-le-mul, mul-le-mul-left, mul-le-mul-right}
+use native.Mathlib.Nat.{div-eq-of-lt-le, lt-of-not-le}
 use native.Mathlib.Decide.{decLe}
 use native.Mathlib.Omega.{arith}
 use lib.Pow.{pow-pos, pow-mono, pow-add, shl-exact}

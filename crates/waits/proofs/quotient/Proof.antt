@@ -1,4 +1,4 @@
--- `quotient` meets its contract.
+-- `waits::quotient` meets its contract: of the total so many times the divisor, moved up by k bits, are taken (`Left`).
 use mathlib.Core.Path.{refl, sym}
 use native.Mathlib.Omega.{arith}
 use native.Mathlib.Nat.{div-eq-of-lt}
@@ -6,8 +6,6 @@ use borrow.Author.Needs.{needs}
 use Rattle.waits.proofs.Halving.{Left, keeps, takes, within, ends, exact}
 use Rattle.waits.proofs.quotient.Statement.{statement}
 use Rattle.waits.proofs.quotient.Tie as tie
-use Rattle.waits.proofs.quotient.Reads as reads
-use Rattle.waits.proofs.quotient.Lts as lts
 
 abbrev Inv-loop : tie.InvT-loop
 Inv-loop total d k₀ step₀ rest₀ q₀ k step rest q = Left total d step k q rest

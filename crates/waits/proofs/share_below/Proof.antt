@@ -15,5 +15,7 @@ share-below-spec =
     (λ c. omega (arith, product (c .before .before .pre) (c .before .before .fits .n .fits)))
     (λ c. search needs)
     (λ c. below-at-once _ _ _ (c .before .before .if1 .left) (c .before .if2 .left) (c .if3 .taken))
-    (λ c. omega (arith, most-product (product (c .before .before .before .pre) (c .before .before .before .fits .n .fits)) (c .if3 .left) (c .before .before .before .fits .d .fits)))
+    (λ c.
+    let start = c .before .before .before in
+    omega (arith, most-product (product (start .pre) (start .fits .n .fits)) (c .if3 .left) (start .fits .d .fits)))
     (λ c. below-by-products _ _ _ (c .before .before .if1 .left) (c .before .if2 .left)))

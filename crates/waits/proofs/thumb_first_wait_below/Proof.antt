@@ -18,8 +18,9 @@ thumb-first-wait-below-spec =
     (λ c κs. search needs)
     (λ c κs. rw (c .before .bounded .ensures) (lag-bound _))
     (λ c.
+    let at-if = c .before .before .before .before in
     rw (
-      second-smaller _ _ (sym (c .before .before .before .before .before .thumb-wait-below .ensures) ∙ c .before .before .before .before .if1 .taken),
+      second-smaller _ _ (sym (at-if .before .thumb-wait-below .ensures) ∙ at-if .if1 .taken),
       ← c .before .before .before .thumb-wait .ensures,
       ← c .before .before .bounded .ensures,
       ← c .before .rest .ensures,
@@ -29,8 +30,9 @@ thumb-first-wait-below-spec =
     (λ c κs. search needs)
     (λ c κs. rw (c .before .bounded2 .ensures) (lag-bound _))
     (λ c.
+    let at-if = c .before .before .before in
     rw (
-      first-smaller _ _ (sym (c .before .before .before .before .thumb-wait-below .ensures) ∙ c .before .before .before .if1 .left),
+      first-smaller _ _ (sym (at-if .before .thumb-wait-below .ensures) ∙ at-if .if1 .left),
       ← c .before .before .bounded2 .ensures,
       ← c .before .rest2 .ensures,
       ← c .share-below2 .ensures,
