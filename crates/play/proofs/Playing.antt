@@ -101,7 +101,7 @@ module _ (log out : List ℕ) (r : pieces.Reader) (g : Going-on log out r) (now 
 
   pub was-refused : (turn : Turn) (next : Reader) → turn ≡ Refused next → Turns (played r (take n now) .reader) turn
       → Reached (reader-of next)
-  was-refused turn next e t = led-to next (rw e at t)
+  was-refused turn next e t = led-to next ((rw e at t) .0)
 
   pub goes-on : (turn : Turn) (next : Reader) (text : List ℕ) → turn ≡ More next → Turns (played r (take n now) .reader) turn
       → length text ≡ length out → Going-on now text (reader-of next) × (to-come (reader-of next) < to-come r)

@@ -20,10 +20,10 @@ abbrev pub Has-end : ℕ → Ending.Ending → Type 0
 Has-end n Ending.the-variants.Full = ⊥
 Has-end n (Ending.the-variants.Text bytes number offset) = (bytes ≤ n) × (number ≢ 2) × (number ≢ 8)
 
--- A turn whose piece led to a reader: it goes on with that reader while nothing is told.
+-- A turn whose piece led to a reader: it goes on with that reader while nothing is told, and stops once something is.
 abbrev pub Turns : Reader → Turn → Type 0
 Turns r (More next) = (reader-of next ≡ r) × (r .told ≡ none)
-Turns r (Refused next) = reader-of next ≡ r
+Turns r (Refused next) = (reader-of next ≡ r) × (r .told ≢ none)
 Turns r Failed = Unit {0}
 
 -- the same of the reader beside a text

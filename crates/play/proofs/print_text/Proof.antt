@@ -1,5 +1,6 @@
 -- `play::print_text` meets its contract: the text that is written lies within the run.
 use borrow.Author.Needs.{needs}
+use mathlib.Core.Option.{Option·none-ne-some}
 use mathlib.Core.Path.{refl, sym}
 use lib.Seq.{length-take-le}
 use Rattle.play.proofs.print_text.Statement.{statement}
@@ -13,7 +14,9 @@ returns : tie.Need-returns
 returns c = rw (c .before .before .before .before .before .before .shown .given .1, c .enum-told2 .given .1) (refl, refl)
 
 returns-2 : tie.Need-returns-2
-returns-2 c = rw (c .before .before .before .before .before .before .shown .given .1) refl
+returns-2 c =
+    rw (c .before .before .before .before .before .before .shown .given .1, c .enum-told3 .given .1)
+    (refl, λ e. absurd (Option·none-ne-some _ (sym e)))
 
 pub print-text-spec : {M : Type 1} → statement M
 print-text-spec =
