@@ -135,13 +135,13 @@ pub fn well_formed(machine: Machine) -> bool
 
 // Whether each state is due at a stamp. It is decided by products, since it is asked at every event: a wait is worked out only of a
 // thumb that was held long before M.
-fn due_in_s2(s: Settings, now: Stamp, m: Stamp) -> bool
+pub fn due_in_s2(s: Settings, now: Stamp, m: Stamp) -> bool
     ensures { λ r. ⌜ r ≡ due-by now (until-S2 s m) ⌝ }
 {
     character_wait_below(s, since(m, now))
 }
 
-fn due_in_s3(s: Settings, now: Stamp, o: Stamp) -> bool
+pub fn due_in_s3(s: Settings, now: Stamp, o: Stamp) -> bool
     ensures { λ r. ⌜ r ≡ due-by now (until-S3 s o) ⌝ }
 {
     if s.solo == 1 {
@@ -151,19 +151,19 @@ fn due_in_s3(s: Settings, now: Stamp, o: Stamp) -> bool
     }
 }
 
-fn due_in_s4(s: Settings, now: Stamp, m: Stamp, o: Stamp) -> bool
+pub fn due_in_s4(s: Settings, now: Stamp, m: Stamp, o: Stamp) -> bool
     ensures { λ r. ⌜ r ≡ due-by now (until-S4 s m o) ⌝ }
 {
     character_first_wait_below(s, lag(m, o), since(o, now))
 }
 
-fn due_in_s5(s: Settings, now: Stamp, o: Stamp, m: Stamp) -> bool
+pub fn due_in_s5(s: Settings, now: Stamp, o: Stamp, m: Stamp) -> bool
     ensures { λ r. ⌜ r ≡ due-by now (until-S5 s o m) ⌝ }
 {
     thumb_first_wait_below(s, lag(o, m), since(m, now))
 }
 
-fn due_in_s6(now: Stamp, m: Stamp, r: Stamp) -> bool
+pub fn due_in_s6(now: Stamp, m: Stamp, r: Stamp) -> bool
     ensures { λ t. ⌜ t ≡ due-by now (until-S6 m r) ⌝ }
 {
     at_or_before(later(r, lag(m, r)), now)

@@ -1,12 +1,12 @@
 -- Laws of a step that its functions lean on.
 use borrow.Author.Tests.{eq-eqb}
-use mathlib.Core.Path.{_≡_, sym}
+use mathlib.Core.Path.{_≡_, sym, ap, _∙_}
 use mathlib.Core.Bool.{true, false}
 use mathlib.Core.List.{append-nil}
 use Prim.Native.Nat.{ℕ}
 use native.Mathlib.Omega.{arith}
 use Rattle.rules.specs.States.{well-formed}
-use Rattle.rules.specs.OneEvent.{_leaving_, late, in-S1, act, due-by}
+use Rattle.rules.specs.OneEvent.{Done, _leaving_, late, in-S1, act, due-by}
 use Rattle.rules.specs.GivenBack.{Verdict, refused, accepted, judge}
 use Rattle.rules.specs.declared.Stamp.{Stamp}
 use Rattle.rules.specs.declared.Settings.{Settings}
@@ -30,6 +30,15 @@ pub not-late : (s : Settings) (now : Stamp) (x : Resting) (i : Input) → due-by
     → one-event-at-most s now x i ≡ act s now x i
 unfolding one-event-at-most
 not-late s now x i e = rw e
+
+-- an event whose late line d was done before it, and one that only acts
+pub when-due : (s : Settings) (now : Stamp) (x : Resting) (i : Input) (d r : Done) → due-by now (deadline-at-most s x) ≡ true
+    → d ≡ late s x → r ≡ (d .items leaving in-S1 now i .resting) → r ≡ one-event-at-most s now x i
+when-due s now x i d r e f g = g ∙ ap (λ (y : Done). y .items leaving in-S1 now i .resting) f ∙ sym (late-first s now x i e)
+
+pub when-not-due : (s : Settings) (now : Stamp) (x : Resting) (i : Input) (r : Done) → due-by now (deadline-at-most s x) ≡ false
+    → r ≡ act s now x i → r ≡ one-event-at-most s now x i
+when-not-due s now x i r e f = f ∙ sym (not-late s now x i e)
 
 refused-not-accepted : (n : ℕ) (i : Input) → refused n ≡ accepted i → ⊥
 refused-not-accepted n i e = let z : _≡_ {A = ℕ} 0 1 = cc in omega arith

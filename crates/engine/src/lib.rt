@@ -1,5 +1,8 @@
 // One event at a machine: whether it is refused, what it commits and sends, and the machine after it. A machine is opened by
 // `rules::Machine::open`; what else a caller asks of one is passed on from the crates below.
+mod by_state;
+
+use by_state::event_in;
 pub use deadlines::Asked;
 pub use deadlines::distance;
 use deadlines::is_due;
@@ -207,8 +210,17 @@ pub fn take_formed(machine: Machine, event: Event) -> Taken
     if number != 0 {
         return Taken::Refused(number);
     }
-    let done = carry_out(machine, now, event.kind, key);
-    let items = done.items;
-    let after = done.machine;
-    Taken::Accepted(items, after)
+    let s = machine.settings;
+    let resting = machine.resting;
+    let effect = event_in(s, now, resting, event.kind, key);
+    let items = effect.items;
+    let next = effect.resting;
+    Taken::Accepted(
+        items,
+        Machine {
+            settings: s,
+            resting: next,
+            last: now,
+        },
+    )
 }

@@ -1,5 +1,6 @@
 // What each resting state does when it is late and at each event: one function for each state, in the order of document 01.
-// key is M, a character key pressed at m, thumb is O, a thumb pressed at o, r is the thumb's release; p is the thumb of the event.
+// key is M, a character key pressed at m, thumb is O, a thumb pressed at o, r is the thumb's release; p is the thumb of the event; a is
+// the gap between the two presses and b the one from the second press to the event, worked out once in a state.
 //
 // An event comes as its kind and key k, as they stand in a record: 1 character down, 2 character up, 3 thumb down, 4 thumb up, 5
 // function down, else a tick (`meant`). An enum of inputs would be taken apart a second time here, which costs the reader a jump for
@@ -12,6 +13,7 @@ use effects::commits_plain;
 use effects::goes_to;
 use effects::same_thumb;
 use rules::Key;
+use rules::Lag;
 use rules::Resting;
 use rules::Settings;
 use rules::Stamp;
@@ -23,7 +25,6 @@ use waits::second_thumb_takes_character;
 use waits::short_overlap;
 ghost use mathlib.Core.Path.{_≡_};
 ghost use Rattle.rules.specs.Choice.{if_then_else_};
-ghost use Rattle.rules.specs.States.{lag};
 ghost use Rattle.rules.specs.OneEvent.{_leaving_, nothing, mark, plain, chord, second-thumb-takes-character, short-overlap};
 ghost use Rattle.rules.specs.OneEvent.{late, in-S1, in-S2, in-S3, in-S4, in-S5, in-S6, act};
 ghost use Rattle.rules.specs.declared.Resting.the-variants.{S1, S3, S4, S6};
@@ -66,7 +67,7 @@ pub fn in_s1(now: Stamp, kind: u8, k: Key) -> Effect
     }
 }
 
-fn in_s2(now: Stamp, key: Key, m: Stamp, kind: u8, k: Key) -> Effect
+pub fn in_s2(now: Stamp, key: Key, m: Stamp, kind: u8, k: Key) -> Effect
     ensures { λ r. ⌜ done r ≡ in-S2 now key m (meant kind k) ⌝ }
 {
     let same = Resting::S2(key, m);
@@ -86,7 +87,7 @@ fn in_s2(now: Stamp, key: Key, m: Stamp, kind: u8, k: Key) -> Effect
     }
 }
 
-fn in_s3(s: Settings, now: Stamp, thumb: Thumb, o: Stamp, kind: u8, k: Key) -> Effect
+pub fn in_s3(s: Settings, now: Stamp, thumb: Thumb, o: Stamp, kind: u8, k: Key) -> Effect
     ensures { λ r. ⌜ done r ≡ in-S3 s now thumb o (meant kind k) ⌝ }
 {
     let same = Resting::S3(thumb, o);
@@ -115,17 +116,17 @@ fn in_s3(s: Settings, now: Stamp, thumb: Thumb, o: Stamp, kind: u8, k: Key) -> E
 }
 
 // S4, M is released: the overlap decides whether O was meant for M.
-fn key_up_in_s4(s: Settings, now: Stamp, key: Key, m: Stamp, thumb: Thumb, o: Stamp) -> Effect
+fn key_up_in_s4(s: Settings, key: Key, thumb: Thumb, o: Stamp, a: Lag, b: Lag) -> Effect
     ensures { λ r. ⌜ done r ≡
-        (if short-overlap (s .j) (lag m o) (lag o now) then (plain key leaving S3 thumb o) else (chord key thumb leaving S1)) ⌝ }
+        (if short-overlap (s .j) (a .0) (b .0) then (plain key leaving S3 thumb o) else (chord key thumb leaving S1)) ⌝ }
 {
-    if short_overlap(s.j, lag(m, o), lag(o, now)) {
+    if short_overlap(s.j, a, b) {
         return commits_plain(key, Resting::S3(thumb, o));
     }
     commits_chord(key, thumb, Resting::S1)
 }
 
-fn in_s4(
+pub fn in_s4(
     s: Settings,
     now: Stamp,
     key: Key,
@@ -138,9 +139,12 @@ fn in_s4(
     ensures { λ r. ⌜ done r ≡ in-S4 s now key m thumb o (meant kind k) ⌝ }
 {
     let same = Resting::S4(key, m, thumb, o);
+    let chord = commits_chord(key, thumb, Resting::S1);
+    let a = lag(m, o);
+    let b = lag(o, now);
     match kind {
         1 => {
-            if second_character_takes_thumb(lag(m, o), lag(o, now)) {
+            if second_character_takes_thumb(a, b) {
                 commits_plain(key, Resting::S5(thumb, o, k, now))
             } else {
                 commits_chord(key, thumb, Resting::S2(k, now))
@@ -148,7 +152,7 @@ fn in_s4(
         }
         2 => {
             if same_key(k, key) {
-                key_up_in_s4(s, now, key, m, thumb, o)
+                key_up_in_s4(s, key, thumb, o, a, b)
             } else {
                 goes_to(same)
             }
@@ -164,12 +168,12 @@ fn in_s4(
         4 => {
             let p = thumb_of(k);
             if same_thumb(p, thumb) {
-                commits_chord(key, thumb, Resting::S1)
+                chord
             } else {
                 goes_to(same)
             }
         }
-        5 => commits_chord(key, thumb, Resting::S1),
+        5 => chord,
         _ => goes_to(same),
     }
 }
@@ -179,33 +183,43 @@ fn thumb_down_in_s5(
     s: Settings,
     now: Stamp,
     thumb: Thumb,
-    o: Stamp,
     key: Key,
     m: Stamp,
     p: Thumb,
+    a: Lag,
+    b: Lag,
 ) -> Effect
     ensures { λ r. ⌜ done r ≡
-        (if second-thumb-takes-character (lag o m) (lag m now) then (mark s thumb leaving S4 key m p now)
+        (if second-thumb-takes-character (a .0) (b .0) then (mark s thumb leaving S4 key m p now)
         else (chord key thumb leaving S3 p now)) ⌝ }
 {
-    if second_thumb_takes_character(lag(o, m), lag(m, now)) {
+    if second_thumb_takes_character(a, b) {
         return commits_mark(s, thumb, Resting::S4(key, m, p, now));
     }
     commits_chord(key, thumb, Resting::S3(p, now))
 }
 
 // S5, O is released: the overlap decides whether it may still turn out that O was not meant for M.
-fn thumb_up_in_s5(s: Settings, now: Stamp, thumb: Thumb, o: Stamp, key: Key, m: Stamp) -> Effect
+fn thumb_up_in_s5(
+    s: Settings,
+    now: Stamp,
+    thumb: Thumb,
+    o: Stamp,
+    key: Key,
+    m: Stamp,
+    a: Lag,
+    b: Lag,
+) -> Effect
     ensures { λ r. ⌜ done r ≡
-        (if short-overlap (s .l) (lag o m) (lag m now) then (nothing leaving S6 thumb o key m now) else (chord key thumb leaving S1)) ⌝ }
+        (if short-overlap (s .l) (a .0) (b .0) then (nothing leaving S6 thumb o key m now) else (chord key thumb leaving S1)) ⌝ }
 {
-    if short_overlap(s.l, lag(o, m), lag(m, now)) {
+    if short_overlap(s.l, a, b) {
         return goes_to(Resting::S6(thumb, o, key, m, now));
     }
     commits_chord(key, thumb, Resting::S1)
 }
 
-fn in_s5(
+pub fn in_s5(
     s: Settings,
     now: Stamp,
     thumb: Thumb,
@@ -218,11 +232,14 @@ fn in_s5(
     ensures { λ r. ⌜ done r ≡ in-S5 s now thumb o key m (meant kind k) ⌝ }
 {
     let same = Resting::S5(thumb, o, key, m);
+    let chord = commits_chord(key, thumb, Resting::S1);
+    let a = lag(o, m);
+    let b = lag(m, now);
     match kind {
         1 => commits_chord(key, thumb, Resting::S2(k, now)),
         2 => {
             if same_key(k, key) {
-                commits_chord(key, thumb, Resting::S1)
+                chord
             } else {
                 goes_to(same)
             }
@@ -232,23 +249,23 @@ fn in_s5(
             if same_thumb(p, thumb) {
                 goes_to(same)
             } else {
-                thumb_down_in_s5(s, now, thumb, o, key, m, p)
+                thumb_down_in_s5(s, now, thumb, key, m, p, a, b)
             }
         }
         4 => {
             let p = thumb_of(k);
             if same_thumb(p, thumb) {
-                thumb_up_in_s5(s, now, thumb, o, key, m)
+                thumb_up_in_s5(s, now, thumb, o, key, m, a, b)
             } else {
                 goes_to(same)
             }
         }
-        5 => commits_chord(key, thumb, Resting::S1),
+        5 => chord,
         _ => goes_to(same),
     }
 }
 
-fn in_s6(
+pub fn in_s6(
     s: Settings,
     now: Stamp,
     thumb: Thumb,

@@ -13,7 +13,5 @@ take-formed-spec =
     (λ c. rw (← c .before .judge-event .ensures, ne-eqb _ 0 (c .if1 .taken)))
     (λ c κs. tt)
     (λ c.
-    let at-carry-out = c .before in
-    let at-if = at-carry-out .before in
-    let d = at-carry-out .carry-out .ensures in
-    rw (← at-if .before .judge-event .ensures, eq-eqb _ 0 (at-if .if1 .left), d .same-items, d .same-machine)))
+    let at-if = c .before .before in
+    rw (← at-if .before .judge-event .ensures, eq-eqb _ 0 (at-if .if1 .left), ← c .event-in .ensures)))

@@ -25,30 +25,31 @@ in-s4-spec =
     (λ c κs. tt)
     (λ c κs. tt)
     (λ c κs. tt)
-    (λ c κs. tt)
     (λ c.
     rw (
-      meant-1 _ _ (c .before .before .before .before .before .match .keys1),
-      ← c .before .before .before .before .lag .ensures,
-      ← c .before .before .before .lag2 .ensures,
+      meant-1 _ _ (c .before .before .before .match .keys1),
+      ← c .before .before .before .before .before .lag .ensures,
+      ← c .before .before .before .before .lag2 .ensures,
       ← c .before .before .second-character-takes-thumb .ensures,
       c .before .if1 .taken,
       ← c .commits-plain .ensures,
     ))
     (λ c.
     rw (
-      meant-1 _ _ (c .before .before .before .before .before .match .keys1),
-      ← c .before .before .before .before .lag .ensures,
-      ← c .before .before .before .lag2 .ensures,
+      meant-1 _ _ (c .before .before .before .match .keys1),
+      ← c .before .before .before .before .before .lag .ensures,
+      ← c .before .before .before .before .lag2 .ensures,
       ← c .before .before .second-character-takes-thumb .ensures,
       c .before .if1 .left,
-      ← c .commits-chord .ensures,
+      ← c .commits-chord2 .ensures,
     ))
     (λ c.
     rw (
       meant-2 _ _ (c .before .before .before .match .keys2),
       ← c .before .before .same-key .ensures,
       c .before .if2 .taken,
+      ← c .before .before .before .before .before .lag .ensures,
+      ← c .before .before .before .before .lag2 .ensures,
       ← c .key-up-in-s4 .ensures,
     ))
     (λ c.
@@ -72,15 +73,15 @@ in-s4-spec =
       ← c .before .before .before .thumb-of .ensures,
       ← c .before .before .same-thumb .ensures,
       c .before .if3 .left,
-      ← c .commits-chord2 .ensures,
+      ← c .commits-chord3 .ensures,
     ))
     (λ c.
     rw (
-      meant-4 _ _ (c .before .before .before .before .match .keys4),
-      ← c .before .before .before .thumb-of2 .ensures,
-      ← c .before .before .same-thumb2 .ensures,
-      c .before .if4 .taken,
-      ← c .commits-chord3 .ensures,
+      meant-4 _ _ (c .before .before .before .match .keys4),
+      ← c .before .before .thumb-of2 .ensures,
+      ← c .before .same-thumb2 .ensures,
+      c .if4 .taken,
+      ← c .before .before .before .before .before .before .commits-chord .ensures,
     ))
     (λ c.
     rw (
@@ -90,7 +91,7 @@ in-s4-spec =
       c .before .if4 .left,
       ← c .goes-to3 .ensures,
     ))
-    (λ c. rw (meant-5 _ _ (c .before .match .keys5), ← c .commits-chord4 .ensures))
+    (λ c. rw (meant-5 _ _ (c .match .keys5), ← c .before .before .before .commits-chord .ensures))
     (λ c.
     rw (
       meant-tick _ _ (c .before .match .rest),

@@ -22,13 +22,14 @@ in-s5-spec =
     (λ c κs. tt)
     (λ c κs. tt)
     (λ c κs. tt)
-    (λ c. rw (meant-1 _ _ (c .before .match .keys1), ← c .commits-chord .ensures))
+    (λ c κs. tt)
+    (λ c. rw (meant-1 _ _ (c .before .match .keys1), ← c .commits-chord2 .ensures))
     (λ c.
     rw (
-      meant-2 _ _ (c .before .before .before .match .keys2),
-      ← c .before .before .same-key .ensures,
-      c .before .if1 .taken,
-      ← c .commits-chord2 .ensures,
+      meant-2 _ _ (c .before .before .match .keys2),
+      ← c .before .same-key .ensures,
+      c .if1 .taken,
+      ← c .before .before .before .before .before .commits-chord .ensures,
     ))
     (λ c.
     rw (
@@ -51,6 +52,8 @@ in-s5-spec =
       ← c .before .before .before .thumb-of .ensures,
       ← c .before .before .same-thumb .ensures,
       c .before .if2 .left,
+      ← c .before .before .before .before .before .before .lag .ensures,
+      ← c .before .before .before .before .before .lag2 .ensures,
       ← c .thumb-down-in-s5 .ensures,
     ))
     (λ c.
@@ -59,6 +62,8 @@ in-s5-spec =
       ← c .before .before .before .thumb-of2 .ensures,
       ← c .before .before .same-thumb2 .ensures,
       c .before .if3 .taken,
+      ← c .before .before .before .before .before .before .lag .ensures,
+      ← c .before .before .before .before .before .lag2 .ensures,
       ← c .thumb-up-in-s5 .ensures,
     ))
     (λ c.
@@ -69,7 +74,7 @@ in-s5-spec =
       c .before .if3 .left,
       ← c .goes-to3 .ensures,
     ))
-    (λ c. rw (meant-5 _ _ (c .before .match .keys5), ← c .commits-chord3 .ensures))
+    (λ c. rw (meant-5 _ _ (c .match .keys5), ← c .before .before .before .commits-chord .ensures))
     (λ c.
     rw (
       meant-tick _ _ (c .before .match .rest),

@@ -8,12 +8,8 @@ thumb-down-in-s5-spec =
     (tie.spec
     (λ c κs. tt)
     (λ c κs. tt)
-    (λ c κs. tt)
-    (λ c κs. tt)
     (λ c.
     rw (
-      ← c .before .before .before .before .lag .ensures,
-      ← c .before .before .before .lag2 .ensures,
       ← c .before .before .second-thumb-takes-character .ensures,
       c .before .if1 .taken,
       ← c .commits-mark .ensures,
@@ -21,8 +17,6 @@ thumb-down-in-s5-spec =
     (λ c κs. tt)
     (λ c.
     rw (
-      ← c .before .before .before .before .lag .ensures,
-      ← c .before .before .before .lag2 .ensures,
       ← c .before .before .second-thumb-takes-character .ensures,
       c .before .if1 .left,
       ← c .commits-chord .ensures,

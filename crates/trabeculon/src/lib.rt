@@ -1,0 +1,88 @@
+// The whole face for a C host, as one library: libtrabeculon.a. Each function is that of `host` or `keyboard` under the same name,
+// with its contract.
+use flat::Flat;
+use host::Answer;
+use host::Drill;
+use host::FlatReader;
+use host::PieceRead;
+use keyboard::DistanceAnswer;
+use keyboard::OpenAnswer;
+use keyboard::StepAnswer;
+ghost use Prim.Native.Nat.{_/_};
+ghost use mathlib.Core.Path.{_≡_};
+ghost use lib.ListN.{length};
+ghost use Rattle.rules.specs.Numbers.{settings-of};
+ghost use Rattle.rules.specs.States.{at, opening};
+ghost use Rattle.keylog.specs.Runs.{high-first, Reads};
+ghost use Rattle.writer.specs.Writes.{Writes};
+ghost use Rattle.host.specs.Face.{told};
+ghost use Rattle.host.specs.Drills.{drilled};
+ghost use Rattle.host.specs.InPieces.{fresh-numbers, accepted, GivesPiece, GivesEnd};
+ghost use Rattle.keyboard.specs.Keyboard.{event-of, open-numbers, step-numbers, distance-numbers};
+
+#[no_mangle]
+pub extern "C" fn trabeculon_read_log(log: &[u8], out: &mut [u8]) -> Answer
+    ensures { λ r. ⌜ Reads high-first (length (now (out .entry)) / 2) (now (log .entry)) (now (out .entry)) (told r) (now (out .exit)) ⌝ }
+{
+    host::trabeculon_read_log(log, out)
+}
+
+#[no_mangle]
+pub extern "C" fn trabeculon_write_drill(
+    t: u16,
+    j: u8,
+    l: u8,
+    solo: u8,
+    line: &[u16],
+    out: &mut [u8],
+) -> Drill
+    ensures { λ r. ⌜ Writes (settings-of t j l solo) (now (line .entry)) (now (out .entry)) (drilled r) (now (out .exit)) ⌝ }
+{
+    host::trabeculon_write_drill(t, j, l, solo, line, out)
+}
+
+#[no_mangle]
+pub extern "C" fn trabeculon_reader_fresh() -> FlatReader
+    ensures { λ r. ⌜ r ≡ fresh-numbers ⌝ }
+{
+    host::trabeculon_reader_fresh()
+}
+
+#[no_mangle]
+pub extern "C" fn trabeculon_reader_piece(
+    reader: FlatReader,
+    piece: &[u8],
+    out: &mut [u8],
+) -> PieceRead
+    ensures { λ r. ⌜ GivesPiece reader (now (piece .entry)) (now (out .entry)) (accepted reader) r (now (out .exit)) ⌝ }
+{
+    host::trabeculon_reader_piece(reader, piece, out)
+}
+
+#[no_mangle]
+pub extern "C" fn trabeculon_reader_end(reader: FlatReader) -> PieceRead
+    ensures { λ r. ⌜ GivesEnd reader (accepted reader) r ⌝ }
+{
+    host::trabeculon_reader_end(reader)
+}
+
+#[no_mangle]
+pub extern "C" fn trabeculon_open(t: u16, j: u8, l: u8, solo: u8) -> OpenAnswer
+    ensures { λ r. ⌜ r ≡ open-numbers (opening (settings-of t j l solo)) ⌝ }
+{
+    keyboard::trabeculon_open(t, j, l, solo)
+}
+
+#[no_mangle]
+pub extern "C" fn trabeculon_step(machine: Flat, kind: u8, key: u8, stamp: u64) -> StepAnswer
+    ensures { λ r. ⌜ r ≡ step-numbers machine (event-of kind key stamp) ⌝ }
+{
+    keyboard::trabeculon_step(machine, kind, key, stamp)
+}
+
+#[no_mangle]
+pub extern "C" fn trabeculon_distance(machine: Flat, stamp: u64) -> DistanceAnswer
+    ensures { λ r. ⌜ r ≡ distance-numbers machine (at stamp) ⌝ }
+{
+    keyboard::trabeculon_distance(machine, stamp)
+}
