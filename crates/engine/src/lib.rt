@@ -215,12 +215,10 @@ pub fn take_formed(machine: Machine, event: Event) -> Taken
     let effect = event_in(s, now, resting, event.kind, key);
     let items = effect.items;
     let next = effect.resting;
-    Taken::Accepted(
-        items,
-        Machine {
-            settings: s,
-            resting: next,
-            last: now,
-        },
-    )
+    let after = Machine {
+        settings: s,
+        resting: next,
+        last: now,
+    };
+    Taken::Accepted(items, after)
 }
