@@ -1,29 +1,33 @@
-//! Times the proved library against a plain Rust reader, tuned by hand, on the same
-//! logs, read whole and in pieces:
+//! Times the proved library against plain Rust readers, tuned by hand, on the same logs,
+//! read whole and in pieces:
 //!
 //!   bench [ROUNDS [MIB]]
+//!   bench once READER SIZE
 //!
 //! 50 MiB of valid typed logs of at most 65,536 bytes each are made in memory, and as
-//! much again of 1 MiB each, to be read in pieces (in_pieces.rs). Before timing, both
+//! much again of 1 MiB each, to be read in pieces (in_pieces.rs). Before timing, all
 //! readers are compared with the model on every log. In each round every log is read
-//! by both readers, one right after the other; which goes first changes from log to
+//! by every reader, one right after the other; which goes first changes from log to
 //! log and from round to round. Each reader has one run of its own, written in full
 //! once before timing (so that its pages are there) and not cleared between logs or
 //! rounds.
 //!
 //! On a busy machine the steadiest figure is the one by each log's fastest round.
-//! Instructions don't depend on the load at all:
+//! Instructions don't depend on the load at all. Those of whole logs:
 //!
 //!   valgrind --tool=callgrind --callgrind-out-file=FILE target/bench/bench 1 2
 //!   callgrind_annotate --inclusive=yes FILE | grep read_log
+//!
+//! For those of a piece, `once` reads one log with one reader; bench/count counts them.
 
 mod in_pieces;
+mod kept;
 mod times;
 
 use std::hint::black_box;
 use std::process::ExitCode;
 
-use times::{milliseconds, Pair, Times};
+use times::{measure, milliseconds, ratios, Times};
 use trabeculon_model::generate::{right_settings, typed_log};
 use trabeculon_model::log::{read_log_bytes, Answer, BUFFER};
 use trabeculon_model::random::Random;
@@ -49,20 +53,44 @@ const RUN: usize = BUFFER;
 
 fn main() -> ExitCode {
     let words: Vec<String> = std::env::args().skip(1).collect();
-    let number = |place: usize, usual| words.get(place).map_or(Some(usual), |w| w.parse().ok());
-    let (Some(rounds @ 1..), Some(mib @ 1..=1000)) =
-        (number(0, DEFAULT_ROUNDS), number(1, DEFAULT_MIB))
-    else {
-        eprintln!("usage: bench [ROUNDS [MIB]]");
-        return ExitCode::from(2);
+    let words: Vec<&str> = words.iter().map(String::as_str).collect();
+    let done = match words[..] {
+        ["once", reader, size] => size.parse().ok().and_then(|size| once(reader, size)),
+        [] => timed_all(DEFAULT_ROUNDS, DEFAULT_MIB),
+        [rounds] => rounds.parse().ok().and_then(|rounds| timed_all(rounds, DEFAULT_MIB)),
+        [rounds, mib] => {
+            rounds.parse().ok().zip(mib.parse().ok()).and_then(|(r, m)| timed_all(r, m))
+        }
+        _ => None,
     };
-    match whole_logs(mib, rounds).and_then(|()| in_pieces::run(mib, rounds)) {
-        Ok(()) => ExitCode::SUCCESS,
-        Err(message) => {
+    match done {
+        Some(Ok(())) => ExitCode::SUCCESS,
+        Some(Err(message)) => {
             println!("{message}");
             ExitCode::FAILURE
         }
+        None => {
+            eprintln!("usage: bench [ROUNDS [MIB]]");
+            eprintln!("       bench once library|same-face|private SIZE");
+            ExitCode::from(2)
+        }
     }
+}
+
+/// None if the arguments are wrong.
+type Done = Option<Result<(), String>>;
+
+fn timed_all(rounds: usize, mib: usize) -> Done {
+    if rounds == 0 || !(1..=1000).contains(&mib) {
+        return None;
+    }
+    Some(whole_logs(mib, rounds).and_then(|()| in_pieces::run(mib, rounds)))
+}
+
+fn once(reader: &str, size: usize) -> Done {
+    let (pieces, events) = in_pieces::read_once(reader, size)?;
+    println!("{pieces} pieces {events} events");
+    Some(Ok(()))
 }
 
 fn whole_logs(mib: usize, rounds: usize) -> Result<(), String> {
@@ -71,11 +99,12 @@ fn whole_logs(mib: usize, rounds: usize) -> Result<(), String> {
     println!("{} valid logs of at most {BUFFER} bytes, {bytes} bytes in all", logs.len());
     let words = compare(&logs)?;
     println!("both readers agree with the model on every log; {words} words");
-    let pair = Pair::measure(&logs, rounds, timed(library_read_log), timed(reader::read_log));
+    let [library, rust] =
+        measure(&logs, rounds, [&mut timed(library_read_log), &mut timed(reader::read_log)]);
     println!("{rounds} rounds, interleaved log by log; runs not cleared between logs or rounds");
-    report("proved library", &pair.library, bytes);
-    report("Rust reader", &pair.rust, bytes);
-    let [median, minimum, fastest] = pair.ratios();
+    report("proved library", &library, bytes);
+    report("Rust reader", &rust, bytes);
+    let [median, minimum, fastest] = ratios(&library, &rust);
     println!(
         "ratio library / Rust: {median:.3} by median, {minimum:.3} by minimum, \
          {fastest:.3} by each log's fastest"

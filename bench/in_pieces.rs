@@ -1,112 +1,27 @@
 //! Logs of 1 MiB in pieces: the library's reader, which goes by value through the
-//! caller's hands as numbers, against the plain Rust one, which goes by value too.
+//! caller's hands as numbers, against two plain Rust ones, which go by value too. One has
+//! the same C face (face.rs): any numbers may be handed to it, and those that are no
+//! reader are refused. The other's fields are private (pieces.rs), so it never looks.
 
 use std::hint::black_box;
 
 use trabeculon_model::generate::{random_case, Case};
 use trabeculon_model::log::{read_log_bytes, Answer};
-use trabeculon_model::pieces::{
-    end_numbers, fresh_numbers, piece_numbers, FlatReader, PieceRead, Wrong,
-};
 use trabeculon_model::random::Random;
-use trabeculon_model::readers::random_cut;
-use trabeculon_plain::pieces;
+use trabeculon_model::readers::{every_call, random_call, random_cut, Call};
 
-use crate::times::{milliseconds, Pair};
+use crate::kept::{Face, Kept, Library, Model, Numbers, Private, SameFace};
+use crate::times::{measure, milliseconds, ratios, Times};
 use crate::{make_logs, SEED};
-
-extern "C" {
-    fn trabeculon_reader_fresh() -> FlatReader;
-    fn trabeculon_reader_piece(
-        reader: FlatReader,
-        piece: *const u8,
-        piece_len: usize,
-        out: *mut u8,
-        out_len: usize,
-    ) -> PieceRead;
-    fn trabeculon_reader_end(reader: FlatReader) -> PieceRead;
-}
 
 /// The sizes of the pieces; the last is a whole log.
 const SIZES: [usize; 6] = [1, 7, 64, 1_000, 65_536, usize::MAX];
 const MIB: usize = 1 << 20;
-/// Of small pieces fewer bytes are read: so many MiB for each byte of a piece.
-const MIB_FOR_A_BYTE: usize = 4;
-/// So many random logs are tried before timing.
+/// So many random logs, and so many random readers, are tried before timing.
 const RANDOM_LOGS: u64 = 20_000;
-
-// ---- A reader as its caller keeps it ----
-
-trait Kept {
-    fn fresh() -> Self;
-    fn piece(&mut self, piece: &[u8], out: &mut [u8]) -> Answer;
-    fn end(&mut self) -> Answer;
-}
-
-/// The proved library, in safe clothes.
-struct Library(FlatReader);
-
-impl Kept for Library {
-    fn fresh() -> Library {
-        Library(unsafe { trabeculon_reader_fresh() })
-    }
-
-    #[inline]
-    fn piece(&mut self, piece: &[u8], out: &mut [u8]) -> Answer {
-        let (bytes, run) = (piece.as_ptr(), out.as_mut_ptr());
-        // Sound: both pairs are a slice's own pointer and length, and don't overlap.
-        let read = unsafe { trabeculon_reader_piece(self.0, bytes, piece.len(), run, out.len()) };
-        self.0 = read.reader;
-        read.answer
-    }
-
-    fn end(&mut self) -> Answer {
-        let read = unsafe { trabeculon_reader_end(self.0) };
-        self.0 = read.reader;
-        read.answer
-    }
-}
-
-struct Plain(pieces::Reader);
-
-impl Kept for Plain {
-    fn fresh() -> Plain {
-        Plain(pieces::fresh())
-    }
-
-    #[inline]
-    fn piece(&mut self, piece: &[u8], out: &mut [u8]) -> Answer {
-        let read = pieces::piece(self.0, piece, out);
-        self.0 = read.reader;
-        read.answer
-    }
-
-    fn end(&mut self) -> Answer {
-        let read = pieces::end(self.0);
-        self.0 = read.reader;
-        read.answer
-    }
-}
-
-struct Model(FlatReader);
-
-impl Kept for Model {
-    fn fresh() -> Model {
-        Model(fresh_numbers())
-    }
-
-    fn piece(&mut self, piece: &[u8], out: &mut [u8]) -> Answer {
-        let read = piece_numbers(Wrong::default(), &self.0, piece, out);
-        self.0 = read.reader;
-        read.answer
-    }
-
-    fn end(&mut self) -> Answer {
-        let read = end_numbers(Wrong::default(), &self.0);
-        self.0 = read.reader;
-        read.answer
-    }
-}
+const RANDOM_READERS: u64 = 20_000;
+/// The length of a log that is read once.
+const LENGTH_ONCE: usize = 200_000;
 
 // ---- Comparing ----
 
@@ -137,15 +52,56 @@ fn compare_random_logs() -> Result<(), String> {
         let ample = random.once_in(2);
         let room_of = |length: usize| if ample { room_for(length) } else { room.min(length) };
         let cut: Vec<_> = cut.into_iter().map(|length| (length, room_of(length))).collect();
-        let model = told::<Model>(&log, &cut);
-        if told::<Plain>(&log, &cut) != model {
-            return Err(format!("the Rust reader differs from the model on random log {index}"));
-        }
-        if told::<Library>(&log, &cut) != model {
-            return Err(format!("the library differs from the model on random log {index}"));
+        let model = told::<Numbers<Model>>(&log, &cut);
+        let differs = [
+            ("library", told::<Numbers<Library>>(&log, &cut) != model),
+            ("Rust reader with the same face", told::<Numbers<SameFace>>(&log, &cut) != model),
+            ("Rust reader with private fields", told::<Private>(&log, &cut) != model),
+        ];
+        if let Some((name, _)) = differs.into_iter().find(|(_, differs)| *differs) {
+            return Err(format!("the {name} differs from the model on random log {index}"));
         }
     }
     Ok(())
+}
+
+/// A fixed set of readers that tries every place of the numbers, and random ones, well
+/// formed or not. How many were refused 2.
+fn compare_readers() -> Result<u64, String> {
+    let mut refused = 0;
+    let mut compare = |call: Call| -> Result<(), String> {
+        refused += u64::from(Model::end(call.reader).answer.number == 2);
+        agrees::<Library>(&call).map_err(|fault| format!("the library differs {fault}"))?;
+        agrees::<SameFace>(&call).map_err(|fault| format!("the Rust reader differs {fault}"))
+    };
+    every_call(&mut compare)?;
+    let mut random = Random::new(SEED);
+    for _ in 0..RANDOM_READERS {
+        compare(random_call(&mut random))?;
+    }
+    Ok(refused)
+}
+
+/// Gives a piece and says the end, in the reader's way and in the model's. An error if
+/// they differ.
+fn agrees<F: Face>(call: &Call) -> Result<(), String> {
+    let Call { reader, piece, room } = call;
+    let [mut run, mut right] = [vec![0xa5; *room], vec![0xa5; *room]];
+    let calls = [
+        (F::piece(*reader, piece, &mut run), Model::piece(*reader, piece, &mut right)),
+        (F::end(*reader), Model::end(*reader)),
+    ];
+    let same = calls.iter().all(|(read, model)| {
+        // Beside 2 byte for byte; else bits above the bytes that came say nothing.
+        let exactly = model.answer.number == 2;
+        let cleaned = read.reader.clean() == model.reader.clean();
+        read.answer == model.answer && cleaned && (!exactly || read.reader == *reader)
+    });
+    if same && run == right {
+        Ok(())
+    } else {
+        Err(format!("at {reader:?} with {piece:?}, room {room}: {calls:?}, {run:?}, {right:?}"))
+    }
 }
 
 /// No more bytes than these are the words of the events that end in a piece.
@@ -168,9 +124,10 @@ fn read<R: Kept>(log: &[u8], size: usize, run: &mut [u8], mut show: impl FnMut(&
 }
 
 /// The last answer and the joined words.
-fn line<R: Kept>(log: &[u8], size: usize, run: &mut [u8]) -> (Answer, Vec<u8>) {
+fn line<R: Kept>(log: &[u8], size: usize) -> (Answer, Vec<u8>) {
+    let mut run = vec![0xa5; room_for(size.min(MIB))];
     let mut line = vec![];
-    let answer = read::<R>(log, size, run, |words| line.extend(words));
+    let answer = read::<R>(log, size, &mut run, |words| line.extend(words));
     (answer, line)
 }
 
@@ -180,12 +137,11 @@ fn compare(logs: &[Vec<u8>], size: usize) -> Result<(), String> {
         let whole = read_log_bytes(log, &mut words);
         words.truncate(2 * whole.words as usize);
         let right = (whole, words);
-        let mut run = vec![0xa5; room_for(size.min(MIB))];
-        if whole.number != 0 || line::<Plain>(log, size, &mut run) != right {
-            return Err(format!("pieces of {size}: the Rust reader differs on log {index}"));
-        }
-        if line::<Library>(log, size, &mut run) != right {
-            return Err(format!("pieces of {size}: the library differs on log {index}"));
+        let same = line::<Numbers<Library>>(log, size) == right
+            && line::<Numbers<SameFace>>(log, size) == right
+            && line::<Private>(log, size) == right;
+        if whole.number != 0 || !same {
+            return Err(format!("pieces of {size}: a reader differs on log {index}"));
         }
     }
     Ok(())
@@ -206,30 +162,57 @@ fn timed<R: Kept>(size: usize) -> impl FnMut(&[u8]) {
 
 pub fn run(mib: usize, rounds: usize) -> Result<(), String> {
     compare_random_logs()?;
-    println!("\nin pieces: both readers agree with the model on {RANDOM_LOGS} random logs");
+    println!("\nin pieces: all three readers agree with the model on {RANDOM_LOGS} random logs");
+    let refused = compare_readers()?;
+    println!("so do the two with the C face on any readers; {refused} of these are refused 2");
     let logs = make_logs(mib * MIB - MIB / 2, MIB);
-    println!("{} valid logs of 1 MiB; {rounds} rounds, interleaved log by log", logs.len());
-    println!("{:>8} {:>10} {:>14} {:>14}   library / Rust by", "", "", "library", "Rust");
+    let bytes: usize = logs.iter().map(Vec::len).sum();
+    println!("{} valid logs, {bytes} bytes; {rounds} rounds, interleaved log by log", logs.len());
+    println!("medians in ms; ratios by the median, by the minimum and by each log's fastest");
     println!(
-        "{:>8} {:>10} {:>14} {:>14} {:>8} {:>8} {:>8}",
-        "piece", "bytes", "median ms", "median ms", "median", "minimum", "fastest"
+        "{:>8} {:>10} {:>10} {:>10}   {:<21}   {:<21}",
+        "piece", "library", "same face", "private", "library / same face", "library / private"
     );
     for size in SIZES {
-        let few = &logs[..logs.len().min(size.saturating_mul(MIB_FOR_A_BYTE))];
-        compare(few, size)?;
-        let pair = Pair::measure(few, rounds, timed::<Library>(size), timed::<Plain>(size));
-        report(size, few, &pair);
+        compare(&logs, size)?;
+        let times = measure(
+            &logs,
+            rounds,
+            [
+                &mut timed::<Numbers<Library>>(size),
+                &mut timed::<Numbers<SameFace>>(size),
+                &mut timed::<Private>(size),
+            ],
+        );
+        report(size, &times);
     }
     Ok(())
 }
 
-fn report(size: usize, logs: &[Vec<u8>], pair: &Pair) {
+fn report(size: usize, times: &[Times; 3]) {
     let name = if size == usize::MAX { "whole".to_string() } else { size.to_string() };
-    let bytes: usize = logs.iter().map(Vec::len).sum();
-    let [library, rust] = [&pair.library, &pair.rust].map(|times| milliseconds(times.median()));
-    let [median, minimum, fastest] = pair.ratios();
+    let [library, same_face, private] = times;
+    let [a, b, c] = [library, same_face, private].map(|times| milliseconds(times.median()));
+    let row = |ratios: [f64; 3]| ratios.map(|ratio| format!("{ratio:.3}")).join("  ");
     println!(
-        "{name:>8} {bytes:>10} {library:>14.2} {rust:>14.2} \
-         {median:>8.3} {minimum:>8.3} {fastest:>8.3}"
+        "{name:>8} {a:>10.2} {b:>10.2} {c:>10.2}   {:<21}   {:<21}",
+        row(ratios(library, same_face)),
+        row(ratios(library, private))
     );
+}
+
+/// Reads one log once, in pieces of this size and with one reader. How many pieces, and
+/// how many events; none if there is no such reader or size.
+pub fn read_once(reader: &str, size: usize) -> Option<(usize, usize)> {
+    let log = &make_logs(1, LENGTH_ONCE)[0];
+    if size == 0 {
+        return None;
+    }
+    match reader {
+        "library" => timed::<Numbers<Library>>(size)(log),
+        "same-face" => timed::<Numbers<SameFace>>(size)(log),
+        "private" => timed::<Private>(size)(log),
+        _ => return None,
+    }
+    Some((log.len().div_ceil(size), log.len() / 13))
 }

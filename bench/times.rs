@@ -1,4 +1,4 @@
-//! Times two readers on the same logs, side by side.
+//! Times readers on the same logs, side by side.
 
 use std::time::{Duration, Instant};
 
@@ -16,7 +16,7 @@ impl Times {
     }
 
     /// Reads one log and adds its time to the current round.
-    fn read(&mut self, reader: &mut impl FnMut(&[u8]), index: usize, log: &[u8]) {
+    fn read(&mut self, reader: &mut dyn FnMut(&[u8]), index: usize, log: &[u8]) {
         let start = Instant::now();
         reader(log);
         let time = start.elapsed();
@@ -41,43 +41,33 @@ impl Times {
     }
 }
 
-/// The times of the proved library and of the plain Rust reader.
-pub struct Pair {
-    pub library: Times,
-    pub rust: Times,
-}
-
-impl Pair {
-    /// In each round every log is read by both, one right after the other; which goes
-    /// first changes from log to log and from round to round.
-    pub fn measure(
-        logs: &[Vec<u8>],
-        rounds: usize,
-        mut by_library: impl FnMut(&[u8]),
-        mut by_rust: impl FnMut(&[u8]),
-    ) -> Pair {
-        let (mut library, mut rust) = (Times::new(logs.len()), Times::new(logs.len()));
-        for round in 0..rounds {
-            library.rounds.push(Duration::ZERO);
-            rust.rounds.push(Duration::ZERO);
-            for (index, log) in logs.iter().enumerate() {
-                if (round + index) % 2 == 0 {
-                    library.read(&mut by_library, index, log);
-                    rust.read(&mut by_rust, index, log);
-                } else {
-                    rust.read(&mut by_rust, index, log);
-                    library.read(&mut by_library, index, log);
-                }
+/// In each round every log is read by all readers, one right after the other; which goes
+/// first changes from log to log and from round to round.
+pub fn measure<const N: usize>(
+    logs: &[Vec<u8>],
+    rounds: usize,
+    readers: [&mut dyn FnMut(&[u8]); N],
+) -> [Times; N] {
+    let mut times = [(); N].map(|()| Times::new(logs.len()));
+    for round in 0..rounds {
+        for one in &mut times {
+            one.rounds.push(Duration::ZERO);
+        }
+        for (index, log) in logs.iter().enumerate() {
+            for turn in 0..N {
+                let place = (round + index + turn) % N;
+                times[place].read(readers[place], index, log);
             }
         }
-        Pair { library, rust }
     }
+    times
+}
 
-    /// By the median, by the minimum and by each log's fastest round.
-    pub fn ratios(&self) -> [f64; 3] {
-        [Times::median, Times::minimum, Times::fastest]
-            .map(|time| time(&self.library).as_secs_f64() / time(&self.rust).as_secs_f64())
-    }
+/// One reader's time over another's: by the median, by the minimum and by each log's
+/// fastest round.
+pub fn ratios(one: &Times, other: &Times) -> [f64; 3] {
+    [Times::median, Times::minimum, Times::fastest]
+        .map(|time| time(one).as_secs_f64() / time(other).as_secs_f64())
 }
 
 pub fn milliseconds(time: Duration) -> f64 {

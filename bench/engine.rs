@@ -1,0 +1,267 @@
+//! The machine of document 01, with the requests up to 5/12, behind the Rust reader that
+//! has the C face. Tuned by hand:
+//!
+//! - One jump by the state, and one by the kind of the event.
+//! - Whether a deadline is due is decided by products: a wait of x n / d, rounded up, is
+//!   over once x n is at most d times the time since. So a deadline need not be kept, and
+//!   nothing is divided but for a thumb that was held long before its key.
+//! - The fields are those of the numbers. What a state doesn't use is left as it is while
+//!   events are taken, and made 0 once, when the numbers are handed back.
+//! - An event gives what rests next, which is kept once its words fit.
+
+use trabeculon_model::live::Flat;
+use trabeculon_plain::reader::{Words, FACES, KEYS_OF_KIND, LARGEST_STAMP, NOTHING};
+
+pub const EVENT_LENGTH: usize = 13;
+const SHORT_OVERLAP: u64 = 400;
+
+pub struct Event {
+    pub kind: u8,
+    pub key: u8,
+    pub stamp: u64,
+}
+
+/// The event at the start of some bytes, whose record it takes away.
+#[inline(always)]
+pub fn next_event(rest: &mut &[u8]) -> Option<Event> {
+    let (record, behind) = rest.split_first_chunk::<EVENT_LENGTH>()?;
+    let [2, 0, 10, kind, key, stamp @ ..] = record else { return None };
+    *rest = behind;
+    Some(Event { kind: *kind, key: *key, stamp: u64::from_be_bytes(*stamp) })
+}
+
+/// Whether settings are in range.
+#[inline(always)]
+pub fn in_range(t: u16, j: u8, l: u8, solo: u8) -> bool {
+    let percent = 1..=99;
+    (50..=1000).contains(&t) && percent.contains(&j) && percent.contains(&l) && solo <= 1
+}
+
+pub struct Engine {
+    t: u64,
+    j: u64,
+    l: u64,
+    solo: bool,
+    last: u64,
+    resting: Resting,
+}
+
+#[derive(Clone, Copy)]
+struct Resting {
+    state: u8,
+    key: u8,
+    thumb: u8,
+    m: u64,
+    o: u64,
+    r: u64,
+}
+
+/// What an event commits, and what rests after it.
+type Effect = (Words, Resting);
+
+impl Engine {
+    /// The machine that these numbers name. They are well formed.
+    #[inline(always)]
+    pub fn of(machine: &Flat) -> Engine {
+        let Flat { last, m, o, r, t, j, l, solo, state, key, thumb } = *machine;
+        let resting = Resting { state, key, thumb, m, o, r };
+        Engine { t: t.into(), j: j.into(), l: l.into(), solo: solo == 1, last, resting }
+    }
+
+    /// The numbers after some events, given those before.
+    #[inline(always)]
+    pub fn numbers(&self, before: &Flat) -> Flat {
+        let Resting { state, key, thumb, m, o, r } = self.resting;
+        let (key, m) = if matches!(state, 1 | 3) { (0, 0) } else { (key, m) };
+        let (thumb, o) = if state < 3 { (0, 0) } else { (thumb, o) };
+        let r = if state < 6 { 0 } else { r };
+        Flat { last: self.last, m, o, r, state, key, thumb, ..*before }
+    }
+
+    /// Takes an event and writes its words. How many bytes; nothing is done where it is
+    /// refused.
+    #[inline(always)]
+    pub fn put(&mut self, event: Event, out: &mut [u8]) -> Result<usize, u32> {
+        let Event { kind, key, stamp } = event;
+        if kind > 6 || key >= KEYS_OF_KIND[usize::from(kind)] {
+            return Err(3);
+        }
+        if stamp > LARGEST_STAMP {
+            return Err(4);
+        }
+        if stamp < self.last {
+            return Err(5);
+        }
+        let (words, resting) = self.take(kind, key, stamp);
+        let bytes = words.write(out).ok_or(8u32)?;
+        self.resting = resting;
+        self.last = stamp;
+        Ok(bytes)
+    }
+
+    #[inline(always)]
+    fn take(&self, kind: u8, k: u8, now: u64) -> Effect {
+        match self.resting.state {
+            1 => (NOTHING, self.resting.in_s1(kind, k, now)),
+            2 => self.in_s2(kind, k, now),
+            3 => self.in_s3(kind, k, now),
+            4 => self.in_s4(kind, k, now),
+            5 => self.in_s5(kind, k, now),
+            _ => self.in_s6(kind, k, now),
+        }
+    }
+
+    // What is due comes first; it leaves S1, where no event commits.
+
+    #[inline(always)]
+    fn in_s2(&self, kind: u8, k: u8, now: u64) -> Effect {
+        let same @ Resting { key, m, .. } = self.resting;
+        if (now - m) * self.j >= self.t * (100 - self.j) {
+            return (plain(key), same.in_s1(kind, k, now));
+        }
+        match kind {
+            1 => (plain(key), same.lone_key(k, now)),
+            2 if k == key => (plain(key), same.at_rest()),
+            3 => (NOTHING, Resting { state: 4, thumb: k, o: now, ..same }),
+            5 => (plain(key), same.at_rest()),
+            _ => (NOTHING, same),
+        }
+    }
+
+    #[inline(always)]
+    fn in_s3(&self, kind: u8, k: u8, now: u64) -> Effect {
+        let same @ Resting { thumb, o, .. } = self.resting;
+        if self.solo && (now - o) * self.l >= self.t * (100 - self.l) {
+            return (self.mark(thumb), same.in_s1(kind, k, now));
+        }
+        match kind {
+            1 => (NOTHING, Resting { state: 5, key: k, m: now, ..same }),
+            3 if k != thumb => (self.mark(thumb), same.lone_thumb(k, now)),
+            4 if k == thumb => (self.mark(thumb), same.at_rest()),
+            5 => (self.mark(thumb), same.at_rest()),
+            _ => (NOTHING, same),
+        }
+    }
+
+    #[inline(always)]
+    fn in_s4(&self, kind: u8, k: u8, now: u64) -> Effect {
+        let same @ Resting { key, m, thumb, o, .. } = self.resting;
+        if (now - o) * (100 - self.j) >= (o - m) * self.j {
+            return (chord(key, thumb), same.in_s1(kind, k, now));
+        }
+        match kind {
+            1 if o - m > now - o => (plain(key), Resting { state: 5, key: k, m: now, ..same }),
+            1 => (chord(key, thumb), same.lone_key(k, now)),
+            2 if k == key && short_overlap(self.j, o - m, now - o) => {
+                (plain(key), Resting { state: 3, ..same })
+            }
+            2 if k == key => (chord(key, thumb), same.at_rest()),
+            3 if k != thumb => (chord(key, thumb), same.lone_thumb(k, now)),
+            4 if k == thumb => (chord(key, thumb), same.at_rest()),
+            5 => (chord(key, thumb), same.at_rest()),
+            _ => (NOTHING, same),
+        }
+    }
+
+    #[inline(always)]
+    fn in_s5(&self, kind: u8, k: u8, now: u64) -> Effect {
+        let same @ Resting { key, m, thumb, o, .. } = self.resting;
+        let since = (now - m) * (100 - self.l);
+        // The lag counts for no more than a lone thumb's wait.
+        let due = since >= (m - o) * self.l
+            || since >= (self.t * (100 - self.l)).next_multiple_of(self.l);
+        if due {
+            return (chord(key, thumb), same.in_s1(kind, k, now));
+        }
+        match kind {
+            1 => (chord(key, thumb), same.lone_key(k, now)),
+            2 if k == key => (chord(key, thumb), same.at_rest()),
+            3 if k != thumb && m - o >= now - m => {
+                (self.mark(thumb), Resting { state: 4, thumb: k, o: now, ..same })
+            }
+            3 if k != thumb => (chord(key, thumb), same.lone_thumb(k, now)),
+            4 if k == thumb && short_overlap(self.l, m - o, now - m) => {
+                (NOTHING, Resting { state: 6, r: now, ..same })
+            }
+            4 if k == thumb => (chord(key, thumb), same.at_rest()),
+            5 => (chord(key, thumb), same.at_rest()),
+            _ => (NOTHING, same),
+        }
+    }
+
+    #[inline(always)]
+    fn in_s6(&self, kind: u8, k: u8, now: u64) -> Effect {
+        let same @ Resting { key, m, thumb, r, .. } = self.resting;
+        if now - r >= r - m {
+            return (self.both(key, thumb), same.in_s1(kind, k, now));
+        }
+        match kind {
+            1 => (chord(key, thumb), same.lone_key(k, now)),
+            2 if k == key => (chord(key, thumb), same.at_rest()),
+            3 => (chord(key, thumb), same.lone_thumb(k, now)),
+            5 => (self.both(key, thumb), same.at_rest()),
+            _ => (NOTHING, same),
+        }
+    }
+
+    #[inline(always)]
+    fn mark(&self, thumb: u8) -> Words {
+        if self.solo {
+            Words(u16::from(thumb) + 1, 0)
+        } else {
+            NOTHING
+        }
+    }
+
+    /// A mark, if there are marks, and then the plain character.
+    #[inline(always)]
+    fn both(&self, key: u8, thumb: u8) -> Words {
+        let Words(character, _) = plain(key);
+        if self.solo {
+            Words(u16::from(thumb) + 1, character)
+        } else {
+            Words(character, 0)
+        }
+    }
+}
+
+impl Resting {
+    #[inline(always)]
+    fn at_rest(self) -> Resting {
+        Resting { state: 1, ..self }
+    }
+
+    #[inline(always)]
+    fn lone_key(self, key: u8, m: u64) -> Resting {
+        Resting { state: 2, key, m, ..self }
+    }
+
+    #[inline(always)]
+    fn lone_thumb(self, thumb: u8, o: u64) -> Resting {
+        Resting { state: 3, thumb, o, ..self }
+    }
+
+    #[inline(always)]
+    fn in_s1(self, kind: u8, k: u8, now: u64) -> Resting {
+        match kind {
+            1 => self.lone_key(k, now),
+            3 => self.lone_thumb(k, now),
+            _ => self.at_rest(),
+        }
+    }
+}
+
+#[inline(always)]
+fn plain(key: u8) -> Words {
+    Words(FACES[usize::from(key)][0], 0)
+}
+
+#[inline(always)]
+fn chord(key: u8, thumb: u8) -> Words {
+    Words(FACES[usize::from(key)][usize::from(thumb) + 1], 0)
+}
+
+#[inline(always)]
+fn short_overlap(percent: u64, a: u64, b: u64) -> bool {
+    100 * b < percent * (a + b) && b < SHORT_OVERLAP
+}
