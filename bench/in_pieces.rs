@@ -12,7 +12,7 @@ use trabeculon_model::readers::{every_call, random_call, random_cut, Call};
 
 use crate::kept::{Face, Kept, Library, Model, Numbers, Private, SameFace};
 use crate::times::{measure, milliseconds, ratios, Times};
-use crate::{make_logs, SEED};
+use crate::whole::{make_logs, SEED};
 
 /// The sizes of the pieces; the last is a whole log.
 const SIZES: [usize; 6] = [1, 7, 64, 1_000, 65_536, usize::MAX];
