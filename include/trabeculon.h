@@ -3,8 +3,8 @@
  * is its face for a C host: eight functions over runs and numbers. One reads a
  * log and one writes the log of a line; three drive a live keyboard: one opens
  * a machine, one takes an event, one says how far away the next deadline is;
- * and three read a log that arrives in pieces. Those for logs are in libhost.a,
- * those for a live keyboard in libkeyboard.a.
+ * and three read a log that arrives in pieces. All of them are in
+ * libtrabeculon.a.
  *
  * Each function is proved equal to a definition, for every input, and to
  * return. Behind "Proved:" stand the definitions and statements that carry what
