@@ -1,19 +1,57 @@
-//! The machine of document 01, with the requests up to 5/12, behind the Rust reader that
-//! has the C face. Tuned by hand:
+//! The machine of document 01, with the requests up to 5/12, as a Rust programmer would
+//! write it for speed. All Rust readers of the bench stand on it:
 //!
 //! - One jump by the state, and one by the kind of the event.
 //! - Whether a deadline is due is decided by products: a wait of x n / d, rounded up, is
 //!   over once x n is at most d times the time since. So a deadline need not be kept, and
 //!   nothing is divided but for a thumb that was held long before its key.
-//! - The fields are those of the numbers. What a state doesn't use is left as it is while
-//!   events are taken, and made 0 once, when the numbers are handed back.
+//! - The fields are those of the C face's numbers. What a state doesn't use is left as it
+//!   is while events are taken, and made 0 only where numbers are handed back.
 //! - An event gives what rests next, which is kept once its words fit.
 
 use trabeculon_model::live::Flat;
-use trabeculon_plain::reader::{Words, FACES, KEYS_OF_KIND, LARGEST_STAMP, NOTHING};
 
 pub const EVENT_LENGTH: usize = 13;
+pub const LARGEST_STAMP: u64 = 1_000_000_000_000;
 const SHORT_OVERLAP: u64 = 400;
+
+/// Allowed keys are below this, by kind.
+const KEYS_OF_KIND: [u8; 7] = [0, 31, 31, 2, 2, 1, 1];
+
+/// Plain, left thumb, right thumb; 0 for an empty face.
+static FACES: [[u16; 3]; 31] = [
+    ['．' as u16, 'ぅ' as u16, 0],
+    ['ひ' as u16, 'ー' as u16, 'び' as u16],
+    ['す' as u16, 'ろ' as u16, 'ず' as u16],
+    ['ふ' as u16, 'や' as u16, 'ぶ' as u16],
+    ['へ' as u16, 'ぃ' as u16, 'べ' as u16],
+    ['め' as u16, 'ぷ' as u16, 'ぬ' as u16],
+    ['そ' as u16, 'ぞ' as u16, 'ゆ' as u16],
+    ['ね' as u16, 'ぺ' as u16, 'む' as u16],
+    ['ほ' as u16, 'ぼ' as u16, 'わ' as u16],
+    ['・' as u16, 0, 'ぉ' as u16],
+    ['う' as u16, 'を' as u16, 0],
+    ['し' as u16, 'あ' as u16, 'じ' as u16],
+    ['て' as u16, 'な' as u16, 'で' as u16],
+    ['け' as u16, 'ゅ' as u16, 'げ' as u16],
+    ['せ' as u16, 'も' as u16, 'ぜ' as u16],
+    ['は' as u16, 'ば' as u16, 'み' as u16],
+    ['と' as u16, 'ど' as u16, 'お' as u16],
+    ['き' as u16, 'ぎ' as u16, 'の' as u16],
+    ['い' as u16, 'ぽ' as u16, 'ょ' as u16],
+    ['ん' as u16, 0, 'っ' as u16],
+    ['。' as u16, 'ぁ' as u16, 0],
+    ['か' as u16, 'え' as u16, 'が' as u16],
+    ['た' as u16, 'り' as u16, 'だ' as u16],
+    ['こ' as u16, 'ゃ' as u16, 'ご' as u16],
+    ['さ' as u16, 'れ' as u16, 'ざ' as u16],
+    ['ら' as u16, 'ぱ' as u16, 'よ' as u16],
+    ['ち' as u16, 'ぢ' as u16, 'に' as u16],
+    ['く' as u16, 'ぐ' as u16, 'る' as u16],
+    ['つ' as u16, 'づ' as u16, 'ま' as u16],
+    ['，' as u16, 'ぴ' as u16, 'ぇ' as u16],
+    ['、' as u16, 0, 0],
+];
 
 pub struct Event {
     pub kind: u8,
@@ -37,6 +75,30 @@ pub fn in_range(t: u16, j: u8, l: u8, solo: u8) -> bool {
     (50..=1000).contains(&t) && percent.contains(&j) && percent.contains(&l) && solo <= 1
 }
 
+/// The words of one step: 0 where there is none, and no second without a first.
+struct Words(u16, u16);
+
+const NOTHING: Words = Words(0, 0);
+
+impl Words {
+    /// Writes all words, high byte first, and says how many bytes; none if they don't fit.
+    #[inline(always)]
+    fn write(self, out: &mut [u8]) -> Option<usize> {
+        if self.0 == 0 {
+            return Some(0);
+        }
+        let [a, b] = self.0.to_be_bytes();
+        if self.1 == 0 {
+            *out.first_chunk_mut()? = [a, b];
+            return Some(2);
+        }
+        let [c, d] = self.1.to_be_bytes();
+        *out.first_chunk_mut()? = [a, b, c, d];
+        Some(4)
+    }
+}
+
+#[derive(Clone, Copy)]
 pub struct Engine {
     t: u64,
     j: u64,
@@ -60,6 +122,18 @@ struct Resting {
 type Effect = (Words, Resting);
 
 impl Engine {
+    /// None if the settings are out of range.
+    #[inline(always)]
+    pub fn open(t: u16, j: u8, l: u8, solo: u8) -> Option<Engine> {
+        let opened = Flat { t, j, l, solo, state: 1, ..Flat::default() };
+        in_range(t, j, l, solo).then(|| Engine::of(&opened))
+    }
+
+    #[inline(always)]
+    pub fn waits(&self) -> bool {
+        !matches!(self.resting.state, 1 | 3)
+    }
+
     /// The machine that these numbers name. They are well formed.
     #[inline(always)]
     pub fn of(machine: &Flat) -> Engine {
