@@ -66,10 +66,11 @@ fn compare_random_logs() -> Result<(), String> {
 }
 
 /// A fixed set of readers that tries every place of the numbers, and random ones, well
-/// formed or not. How many were refused 2.
-fn compare_readers() -> Result<u64, String> {
-    let mut refused = 0;
+/// formed or not. How many there were, and how many were refused 2.
+fn compare_readers() -> Result<(u64, u64), String> {
+    let (mut tried, mut refused) = (0, 0);
     let mut compare = |call: Call| -> Result<(), String> {
+        tried += 1;
         refused += u64::from(Model::end(call.reader).answer.number == 2);
         agrees::<Library>(&call).map_err(|fault| format!("the library differs {fault}"))?;
         agrees::<SameFace>(&call).map_err(|fault| format!("the Rust reader differs {fault}"))
@@ -79,7 +80,7 @@ fn compare_readers() -> Result<u64, String> {
     for _ in 0..RANDOM_READERS {
         compare(random_call(&mut random))?;
     }
-    Ok(refused)
+    Ok((tried, refused))
 }
 
 /// Gives a piece and says the end, in the reader's way and in the model's. An error if
@@ -163,8 +164,10 @@ fn timed<R: Kept>(size: usize) -> impl FnMut(&[u8]) {
 pub fn run(mib: usize, rounds: usize) -> Result<(), String> {
     compare_random_logs()?;
     println!("\nin pieces: all three readers agree with the model on {RANDOM_LOGS} random logs");
-    let refused = compare_readers()?;
-    println!("so do the two with the C face on any readers; {refused} of these are refused 2");
+    let (tried, refused) = compare_readers()?;
+    println!(
+        "so do the two with the C face on {tried} calls with any readers, {refused} refused 2"
+    );
     let logs = make_logs(mib * MIB - MIB / 2, MIB);
     let bytes: usize = logs.iter().map(Vec::len).sum();
     println!("{} valid logs, {bytes} bytes; {rounds} rounds, interleaved log by log", logs.len());
