@@ -20,3 +20,8 @@ two-ways R {t} {u} e {a} {b} {c} {d} f g = rw e (go u)
     go : (v : Bool) → R (if v then a else b) (if v then c else d)
     go true = f
     go false = g
+
+-- by the outcome of a test, whatever is to be shown
+pub either : {P : Type 0} (t : Bool) → (t ≡ true → P) → (t ≡ false → P) → P
+either true f g = f refl
+either false f g = g refl

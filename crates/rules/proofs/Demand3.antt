@@ -16,20 +16,23 @@ use Rattle.rules.specs.declared.Stamp.{Stamp}
 use Rattle.rules.specs.declared.Settings.{Settings}
 use Rattle.rules.specs.declared.Machine.{Machine}
 use Rattle.rules.specs.declared.Event.{Event}
+use Rattle.rules.proofs.Held.{empty-formed}
 use Rattle.rules.proofs.Steps.{step-cases}
 use Rattle.rules.proofs.Bounds.{bounds}
 use Rattle.rules.proofs.Presses.{Ran, runs, waiting-not-older, old-is-given}
 use Rattle.rules.proofs.Screen.{run-shows, step-harmless}
-use Rattle.rules.proofs.Ticks.{not-0, closes}
+use Rattle.rules.proofs.Ticks.{not-0, held-over, closes, held-closes}
 
-ran : (s : Settings) (r : in-range s ≡ true) (es : List Event) → Ran s (X s) (W s) (bounds s r) (fresh s) es
-ran s r es = runs s (X s) (W s) (bounds s r) (fresh s) es (record { same-settings = refl; not-above = omega arith; sound = tt })
+pub ran : (s : Settings) (r : in-range s ≡ true) (es : List Event) → Ran s (X s) (W s) (bounds s r) (fresh s) es
+ran s r es =
+    runs s (X s) (W s) (bounds s r) (fresh s) es
+    (record { same-settings = refl; not-above = omega arith; formed = empty-formed; waits-held = tt; sound = tt })
 
 settings-stay : (s : Settings) → in-range s ≡ true → (es : List Event) → state s es .settings ≡ s
 settings-stay s r es = ran s r es .next .same-settings
 
-same-machine : {m n : Machine} → m .settings ≡ n .settings → m .resting ≡ n .resting → m .last ≡ n .last → m ≡ n
-same-machine p q r = λ i. record { settings = p i; resting = q i; last = r i }
+same-machine : {m n : Machine} → m .settings ≡ n .settings → m .resting ≡ n .resting → m .last ≡ n .last → m .held ≡ n .held → m ≡ n
+same-machine p q r h = λ i. record { settings = p i; resting = q i; last = r i; held = h i }
 
 -- an accepted event's stamp is the last accepted one
 last-is-accepted : (m : Machine) (upto : List Event) (e : Event) → step (after m upto) e .number ≡ 0
@@ -73,7 +76,8 @@ ticks-do-not-matter s r es other t same a b =
       same-items = ap (λ (d : Done). d .items) both;
       same-state =
           same-machine (settings-stay s r (with-event es (tick t)) ∙ sym (settings-stay s r (with-event other (tick t)))) (ap (λ (d : Done). d .resting) both)
-          (last-is-accepted (fresh s) es (tick t) a ∙ sym (last-is-accepted (fresh s) other (tick t) b));
+          (last-is-accepted (fresh s) es (tick t) a ∙ sym (last-is-accepted (fresh s) other (tick t) b))
+          (held-closes (fresh s) es t ∙ ap (held-over 0) same ∙ sym (held-closes (fresh s) other t));
     }
 
 screen-is-line : (s : Settings) (es : List Event) → ScreenIsLine s es

@@ -14,10 +14,10 @@ use Rattle.rules.specs.States.{later, deadline, well-formed}
 use Rattle.rules.specs.OneEvent.{_leaving_, nothing, mark, late, due-by, settle}
 use Rattle.rules.specs.ZeroDelay.{shown, sent}
 use Rattle.rules.specs.Choice.{if_then_else_}
-use Rattle.rules.specs.GivenBack.{input, refused, accepted, judge, Answer, acceptance, answer, step}
+use Rattle.rules.specs.GivenBack.{input, is-new, refused, accepted, judge, Answer, acceptance, answer, step}
 use Rattle.rules.specs.Demand3.{tick}
 use Rattle.rules.specs.Distance.{distance, distance-to, Asking, not-answered, asking}
-use Rattle.rules.specs.DistanceFacts.{IsDue, DueOrOverdue, less, only-last, late-line, DistanceFacts, SameRefusals}
+use Rattle.rules.specs.DistanceFacts.{IsDue, DueOrOverdue, less, only-last, late-line, TickIsTime, DistanceFacts, SameRefusals}
 use Rattle.rules.specs.declared.Stamp.{Stamp}
 use Rattle.rules.specs.declared.Settings.{Settings}
 use Rattle.rules.specs.declared.Resting.{Resting}
@@ -27,7 +27,7 @@ use Rattle.rules.specs.declared.Face.the-variants.{Plain}
 use Rattle.rules.specs.declared.Item.{Item}
 use Rattle.rules.specs.declared.Item.the-variants.{Character}
 use Rattle.rules.specs.declared.Input.the-variants.{Tick}
-use Rattle.rules.proofs.Choices.{both-ways, by-test}
+use Rattle.rules.proofs.Choices.{both-ways, by-test, either}
 use Rattle.rules.proofs.Signed.{pos-injective, difference}
 use Rattle.rules.proofs.Steps.{step-accepted}
 use Rattle.rules.proofs.Ticks.{settle-due, settle-not-due, one-tick}
@@ -102,7 +102,7 @@ same-tests m now d true false true = refl
 same-tests m now d true false false = refl
 
 pub same-refusals : (m : Machine) (now : Stamp) → SameRefusals m now
-unfolding asking step judge input
+unfolding asking step judge is-new input
 same-refusals m now =
     same-tests m now (distance-to now (deadline (m .settings) (m .resting))) (well-formed m) (ltb largest-stamp (now .0))
     (ltb (now .0) (m .last .0))
@@ -117,11 +117,11 @@ module _ (m : Machine) (now : Stamp) (a : Answers m now) where
   answer-is = rw (a .formed, le-ltb largest-stamp (now .0) (a .not-above), le-ltb (now .0) (m .last .0) (a .not-before))
 
   -- a tick settles
-  tick-settles : step m (tick now) ≡ acceptance m now (settle (m .settings) now (m .resting))
-  unfolding input
+  tick-settles : step m (tick now) ≡ acceptance m now (m .held) (settle (m .settings) now (m .resting))
+  unfolding input is-new
   tick-settles =
-      step-accepted m (tick now) Tick (a .formed) refl (a .not-above) (a .not-before)
-      ∙ ap (acceptance m now) (one-tick (m .settings) now (m .resting))
+      step-accepted m (tick now) Tick (a .formed) refl (a .not-above) (a .not-before) refl
+      ∙ ap (acceptance m now (m .held)) (one-tick (m .settings) now (m .resting))
 
 -- a late line whose deadline is there commits something
 late-commits : (s : Settings) (y : Resting) (d : Stamp) → deadline s y ≡ some d → late s y .items ≢ []
@@ -167,12 +167,12 @@ module _ (m : Machine) (now : Stamp) (a : Answers m now) where
   items-settled = ap (λ (r : Answer). r .items) (tick-settles m now a)
 
   tick-late : due-by now (deadline (m .settings) (m .resting)) ≡ true
-      → step m (tick now) ≡ acceptance m now (late (m .settings) (m .resting))
-  tick-late h = tick-settles m now a ∙ ap (acceptance m now) (settle-due (m .settings) now (m .resting) h)
+      → step m (tick now) ≡ acceptance m now (m .held) (late (m .settings) (m .resting))
+  tick-late h = tick-settles m now a ∙ ap (acceptance m now (m .held)) (settle-due (m .settings) now (m .resting) h)
 
   tick-idle : due-by now (deadline (m .settings) (m .resting)) ≡ false
-      → step m (tick now) ≡ acceptance m now (nothing leaving (m .resting))
-  tick-idle h = tick-settles m now a ∙ ap (acceptance m now) (settle-not-due (m .settings) now (m .resting) h)
+      → step m (tick now) ≡ acceptance m now (m .held) (nothing leaving (m .resting))
+  tick-idle h = tick-settles m now a ∙ ap (acceptance m now (m .held)) (settle-not-due (m .settings) now (m .resting) h)
 
   tick-only-last : due-by now (deadline (m .settings) (m .resting)) ≡ false → step m (tick now) ≡ only-last m now
   tick-only-last h = tick-idle h ∙ rw (sent-same (shown (m .resting)))
@@ -264,6 +264,11 @@ module _ (m : Machine) (now : Stamp) (a : Answers m now) where
 
   never-due : asking m now .distance ≡ none → (t : Stamp) → step m (tick t) .number ≡ 0 → step m (tick t) ≡ only-last m t
   never-due h t taken = tick-only-last m t (accepts m t taken) (ap (due-by t) (deadline-none m now a h))
+
+pub tick-is-time : (m : Machine) (t : Stamp) → TickIsTime m t
+tick-is-time m t taken =
+    let a = accepts m t taken in
+    either (due-by t (deadline (m .settings) (m .resting))) (λ d. rw d (tick-late m t a d)) (λ f. rw f (tick-only-last m t a f))
 
 pub distance-facts : (m : Machine) (now : Stamp) → asking m now .number ≡ 0 → DistanceFacts m now
 distance-facts m now answered =

@@ -3,27 +3,33 @@
 use mathlib.Core.Path.{refl}
 use Rattle.rules.specs.Numbers.{in-range, up, A, B, FJ, FL, D, X, W}
 use Rattle.rules.specs.Layout.{table, code-point}
+use lib.Count.{onesIn}
+use Rattle.rules.specs.Held.{is-held, hold, release, how-many, held-formed}
 use Rattle.rules.specs.States.{well-formed}
 use Rattle.rules.specs.OneEvent.{mark, same-thumb, same-key, second-character-takes-thumb, second-thumb-takes-character, short-overlap, settle, one-event}
 use Rattle.rules.specs.ZeroDelay.{character, sent}
-use Rattle.rules.specs.GivenBack.{input, judge, step}
+use Rattle.rules.specs.GivenBack.{input, is-new, judge, step}
 use Rattle.rules.specs.Distance.{asking}
-use Rattle.rules.specs.Examples.{ExamplesHold, SlipsHold, SlowHandsHold, DistancesHold, NumbersHold}
+use Rattle.rules.specs.Examples.{ExamplesHold, SlipsHold, SlowHandsHold, HeldDownHold, DistancesHold, NumbersHold}
 
 pub examples-hold : ExamplesHold
-unfolding step judge input well-formed in-range one-event settle mark same-thumb same-key second-character-takes-thumb second-thumb-takes-character short-overlap sent character code-point table up A B FJ FL
+unfolding step judge is-new input well-formed is-held hold release how-many held-formed onesIn in-range one-event settle mark same-thumb same-key second-character-takes-thumb second-thumb-takes-character short-overlap sent character code-point table up A B FJ FL
 examples-hold = refl
 
 pub slips-hold : SlipsHold
-unfolding step judge input well-formed in-range one-event settle mark same-thumb same-key second-character-takes-thumb second-thumb-takes-character short-overlap sent character code-point table up A B FJ FL
+unfolding step judge is-new input well-formed is-held hold release how-many held-formed onesIn in-range one-event settle mark same-thumb same-key second-character-takes-thumb second-thumb-takes-character short-overlap sent character code-point table up A B FJ FL
 slips-hold = refl
 
 pub slow-hands-hold : SlowHandsHold
-unfolding step judge input well-formed in-range one-event settle mark same-thumb same-key second-character-takes-thumb second-thumb-takes-character short-overlap sent character code-point table up A B FJ FL
+unfolding step judge is-new input well-formed is-held hold release how-many held-formed onesIn in-range one-event settle mark same-thumb same-key second-character-takes-thumb second-thumb-takes-character short-overlap sent character code-point table up A B FJ FL
 slow-hands-hold = refl
 
+pub held-down-hold : HeldDownHold
+unfolding step judge is-new input well-formed is-held hold release how-many held-formed onesIn in-range one-event settle mark same-thumb same-key second-character-takes-thumb second-thumb-takes-character short-overlap sent character code-point table up A B FJ FL
+held-down-hold = refl
+
 pub distances-hold : DistancesHold
-unfolding asking step judge input well-formed in-range one-event settle mark same-thumb same-key second-character-takes-thumb second-thumb-takes-character short-overlap sent character code-point table up A B FJ FL
+unfolding asking step judge is-new input well-formed is-held hold release how-many held-formed onesIn in-range one-event settle mark same-thumb same-key second-character-takes-thumb second-thumb-takes-character short-overlap sent character code-point table up A B FJ FL
 distances-hold = refl
 
 pub numbers-hold : NumbersHold

@@ -8,9 +8,10 @@ use mathlib.Core.List.{List, [], _∷_}
 use mathlib.Core.Path.{_≡_, refl, sym, _∙_}
 use borrow.Author.Tests.{ltb-true, leb-true, le-leb}
 use Rattle.rules.specs.Numbers.{largest-stamp, in-range, FJ, X}
+use Rattle.rules.specs.Held.{held-formed}
 use Rattle.rules.specs.States.{at, fresh, at-or-before, keys-below, stamps-by, in-order, well-formed}
 use Rattle.rules.specs.OneEvent.{one-event}
-use Rattle.rules.specs.GivenBack.{Answer, acceptance, step}
+use Rattle.rules.specs.GivenBack.{acts-as, held-after, Answer, step}
 use Rattle.rules.specs.Sequences.{after, state}
 use Rattle.rules.specs.StepFacts.{StaysFormed}
 use Rattle.rules.specs.SequenceFacts.{Sequence-facts}
@@ -21,17 +22,18 @@ use Rattle.rules.specs.declared.Resting.the-variants.{S1, S2, S3, S4, S5
 use Rattle.rules.specs.declared.Machine.{Machine}
 use Rattle.rules.specs.declared.Event.{Event}
 use Rattle.rules.specs.declared.Input.{Input}
+use Rattle.rules.proofs.Held.{formed-test, empty-formed}
 use Rattle.rules.proofs.Tests.{range-bounds}
 use Rattle.rules.proofs.Bounds.{FJ-mono, Bounds, bounds}
 use Rattle.rules.proofs.Refusals.{refusals}
-use Rattle.rules.proofs.Steps.{Accepted, step-cases}
+use Rattle.rules.proofs.Steps.{Accepted, taken, step-cases}
 use Rattle.rules.proofs.Kept.{Sound, one-event-keeps}
 use Rattle.rules.proofs.Presses.{sound-tests}
 
 both : (a b : Bool) → (a && b) ≡ true → (a ≡ true) × (b ≡ true)
 both a b = and-eq-true-iff a b .0
 
--- the tests of well-formedness, one by one
+-- the tests of well-formedness, one by one; that of the held set is `machine-formed`
 record Formed (m : Machine) : Type 0 where
   range : in-range (m .settings) ≡ true
   keys : keys-below (m .resting) ≡ true
@@ -46,7 +48,8 @@ formed m h =
     let k = keys-below (m .resting) in
     let s = stamps-by (m .last) (m .resting) in
     let l = at-or-before (m .last) (at largest-stamp) in
-    let rksl-o = both (r && k && s && l) (in-order (m .resting)) h in
+    let o = in-order (m .resting) in
+    let rksl-o = both (r && k && s && l) o (both (r && k && s && l && o) (held-formed (m .held)) h .0) in
     let rks-l = both (r && k && s) l (rksl-o .0) in
     let rk-s = both (r && k) s (rks-l .0) in
     let r-k = both r k (rk-s .0) in
@@ -88,15 +91,17 @@ module _ (s : Settings) where
       }
 
 accepted-formed : (m : Machine) (e : Event) (i : Input) → Accepted m e i
-    → well-formed (acceptance m (e .stamp) (one-event (m .settings) (e .stamp) (m .resting) i) .machine) ≡ true
+    → well-formed (taken m e (acts-as (m .held) i) .machine) ≡ true
 unfolding well-formed
 accepted-formed m e i a =
     let s = m .settings in
     let f = formed m (a .was-well-formed) in
     let sound = sound-by (x s) (w s) (omega arith) (omega arith) (m .last) (m .resting) (f .not-above) (f .keys) (f .stamps) (f .order) in
-    let kept = one-event-keeps s (x s) (w s) (wide s (f .range)) (m .last) (e .stamp) (m .resting) i (a .not-before) sound (a .parsed .key-below) in
-    let t = sound-tests (x s) (w s) (e .stamp) (one-event s (e .stamp) (m .resting) i .resting) (kept .sound) in
-    rw (f .range, t .0, t .1, le-leb (e .stamp .0) largest-stamp (a .not-above)) (t .2)
+    let j = acts-as (m .held) i in
+    let kept = one-event-keeps s (x s) (w s) (wide s (f .range)) (m .last) (e .stamp) (m .resting) j (a .not-before) sound (a .key-below) in
+    let t = sound-tests (x s) (w s) (e .stamp) (one-event s (e .stamp) (m .resting) j .resting) (kept .sound) in
+    rw (f .range, t .0, t .1, le-leb (e .stamp .0) largest-stamp (a .not-above), t .2)
+    (formed-test (held-after (m .held) j) (a .stays-formed))
 
 pub stays-formed : (m : Machine) (e : Event) → StaysFormed m e
 stays-formed m e =
@@ -109,7 +114,7 @@ after-formed m (e ∷ es) = after-formed (step m e .machine) es ∙ stays-formed
 
 fresh-formed : (s : Settings) → in-range s ≡ true → well-formed (fresh s) ≡ true
 unfolding well-formed
-fresh-formed s r = rw r
+fresh-formed s r = rw r (formed-test 0 empty-formed)
 
 pub sequence-facts : Sequence-facts
 sequence-facts s r es =

@@ -1,4 +1,5 @@
 pub mod Choices
+pub mod Held
 pub mod Tests
 pub mod LayoutFacts
 pub mod Refusals
@@ -7,11 +8,13 @@ pub mod Steps
 pub mod StepFacts
 pub mod Bounds
 pub mod Kept
+pub mod StillHeld
 pub mod Presses
 pub mod Formed
 pub mod Screen
 pub mod Ticks
 pub mod Demand3
+pub mod HeldRules
 pub mod Signed
 pub mod DistanceFacts
 pub mod Tried

@@ -8,8 +8,9 @@ use lib.ListN.{length}
 use borrow.Author.Tests.{lt-ltb, le-leb}
 use Rattle.rules.specs.Numbers.{largest-stamp}
 use Rattle.rules.specs.States.{keys-below, stamps-by, in-order}
-use Rattle.rules.specs.GivenBack.{Answer, step}
+use Rattle.rules.specs.GivenBack.{acts-as, Answer, step}
 use Rattle.rules.specs.Sequences.{after, along, Press, keys-of, press-in, items-in, characters, waiting}
+use Rattle.rules.specs.HeldRules.{AllHeld}
 use Rattle.rules.specs.declared.Stamp.{Stamp}
 use Rattle.rules.specs.declared.Key.{Key}
 use Rattle.rules.specs.declared.Settings.{Settings}
@@ -18,14 +19,18 @@ use Rattle.rules.specs.declared.Resting.the-variants.{S1, S2, S3, S4, S5
 use Rattle.rules.specs.declared.Machine.{Machine}
 use Rattle.rules.specs.declared.Item.{Item}
 use Rattle.rules.specs.declared.Event.{Event}
+use Rattle.rules.proofs.Held.{FormedSet}
 use Rattle.rules.proofs.Steps.{step-cases}
 use Rattle.rules.proofs.Bounds.{Bounds}
+use Rattle.rules.proofs.StillHeld.{still-held}
 use Rattle.rules.proofs.Kept.{Sound, keys-of-append, characters-append, one-event-keeps}
 
 -- A machine between two events of a sequence with settings s.
 pub record Resumable (s : Settings) (x w : ℕ) (m : Machine) : Type 0 where
   pub same-settings : m .settings ≡ s
   pub not-above : m .last .0 ≤ largest-stamp
+  pub formed : FormedSet (m .held)
+  pub waits-held : AllHeld (m .held) (waiting (m .resting))
   pub sound : Sound x w (m .last .0) (m .resting)
 
 -- What was pressed on the way, beside what waited before: given is answered, the rest waits.
@@ -60,7 +65,7 @@ module _ (s : Settings) (x w : ℕ) (b : Bounds s x w) where
   -- one event
   pub record Stepped (m : Machine) (e : Event) (r : Answer) : Type 0 where
     pub next : Resumable s x w (r .machine)
-    pub answered : Answered m (press-in e r) (r .items) (r .machine)
+    pub answered : Answered m (press-in m e r) (r .items) (r .machine)
 
   pub steps : (m : Machine) (e : Event) → Resumable s x w m → Stepped m e (step m e)
   steps m e h =
@@ -76,12 +81,20 @@ module _ (s : Settings) (x w : ℕ) (b : Bounds s x w) where
       (λ i a.
       let kept =
       one-event-keeps (m .settings) x w (subst (λ (t : Settings). Bounds t x w) (sym (h .same-settings)) b) (m .last) (e .stamp)
-      (m .resting) i (a .not-before) (h .sound) (a .parsed .key-below) in
+      (m .resting) (acts-as (m .held) i) (a .not-before) (h .sound) (a .key-below) in
       record {
-        next = record { same-settings = h .same-settings; not-above = a .not-above; sound = kept .sound };
+        next = record {
+          same-settings = h .same-settings;
+          not-above = a .not-above;
+          formed = a .stays-formed;
+          waits-held =
+              still-held (m .settings) (e .stamp) (m .resting) (m .held) (acts-as (m .held) i) (kept .given) (a .key-below) (h .waits-held)
+              (kept .joined);
+          sound = kept .sound;
+        };
         answered = record {
           given = kept .given;
-          joined = ap (λ (l : List Press). waiting (m .resting) ++ l) (a .parsed .presses (e .stamp)) ∙ kept .joined;
+          joined = ap (λ (l : List Press). waiting (m .resting) ++ l) (a .presses) ∙ kept .joined;
           answers = kept .answers;
         };
       })
@@ -101,7 +114,7 @@ module _ (s : Settings) (x w : ℕ) (b : Bounds s x w) where
         answered = record {
           given = one .answered .given ++ more .answered .given;
           joined =
-              sym (append-assoc (waiting (m .resting)) (press-in e (step m e)) (along press-in (step m e .machine) es))
+              sym (append-assoc (waiting (m .resting)) (press-in m e (step m e)) (along press-in (step m e .machine) es))
               ∙ ap (λ (l : List Press). l ++ along press-in (step m e .machine) es) (one .answered .joined)
               ∙ append-assoc (one .answered .given) (waiting (step m e .machine .resting)) (along press-in (step m e .machine) es)
               ∙ ap (λ (l : List Press). one .answered .given ++ l) (more .answered .joined)

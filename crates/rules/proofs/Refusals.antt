@@ -1,16 +1,17 @@
 -- Every refusal stands in its place: by the outcome of each check, in their order.
 use Prim.Native.Nat.{ℕ, _≤_}
-use mathlib.Core.Bool.{Bool, true, false, true≢false}
+use mathlib.Core.Bool.{Bool, true, false, true≢false, _&&_, and-eq-true-iff}
 use mathlib.Core.Logic.{_↔_}
 use mathlib.Core.Option.{Option, none, some}
 use mathlib.Core.Path.{_≡_, refl, sym, _∙_, ap}
 use native.Mathlib.Omega.{arith}
-use borrow.Author.Tests.{ltb-true, ltb-false}
-use lib.Dec.{ltb}
-use Rattle.rules.specs.Numbers.{largest-stamp}
+use borrow.Author.Tests.{ltb-true, ltb-false, eqb-true, eq-eqb}
+use lib.Dec.{ltb, eqb}
+use Rattle.rules.specs.Numbers.{largest-stamp, most-held}
+use Rattle.rules.specs.Held.{how-many}
 use Rattle.rules.specs.States.{well-formed}
-use Rattle.rules.specs.GivenBack.{input, judge, step, refusal}
-use Rattle.rules.specs.Refusals.{NotWellFormed, NotAllowed, AboveLargest, BeforeLast, LeftAsGiven, Refusals}
+use Rattle.rules.specs.GivenBack.{input, is-new, too-many, judge, step, refusal}
+use Rattle.rules.specs.Refusals.{NotWellFormed, NotAllowed, AboveLargest, BeforeLast, TooMany, LeftAsGiven, Refusals}
 use Rattle.rules.specs.declared.Machine.{Machine}
 use Rattle.rules.specs.declared.Event.{Event}
 use Rattle.rules.specs.declared.Input.{Input}
@@ -43,6 +44,10 @@ not-before m e y h =
     let l : m .last .0 ≤ e .stamp .0 = ltb-false _ _ y in
     omega arith
 
+not-too-many : (m : Machine) (e : Event) → too-many m e ≡ false → ¬ TooMany m e
+not-too-many m e z h =
+    true≢false (sym (and-eq-true-iff (is-new m e) (eqb (how-many (m .held)) most-held) .1 (h .0, eq-eqb _ _ (h .1))) ∙ z)
+
 module _ (m : Machine) (e : Event) where
   by-2 : well-formed m ≡ false → Refusals m e
   unfolding step judge
@@ -54,6 +59,7 @@ module _ (m : Machine) (e : Event) where
         gives-3 = neither (λ g. omega arith) (λ r. r .0 w);
         gives-4 = neither (λ g. omega arith) (λ r. r .0 w);
         gives-5 = neither (λ g. omega arith) (λ r. r .0 w);
+        gives-11 = neither (λ g. omega arith) (λ r. r .0 w);
         gives-0 = neither (λ g. omega arith) (λ r. r .0 w);
         refused = λ f. as-given m e 2 s;
       }
@@ -69,6 +75,7 @@ module _ (m : Machine) (e : Event) where
         gives-3 = both n (f, i);
         gives-4 = neither (λ g. omega arith) (λ r. r .1 i);
         gives-5 = neither (λ g. omega arith) (λ r. r .1 i);
+        gives-11 = neither (λ g. omega arith) (λ r. r .1 i);
         gives-0 = neither (λ g. omega arith) (λ r. r .1 i);
         refused = λ h. as-given m e 3 s;
       }
@@ -87,6 +94,7 @@ module _ (m : Machine) (e : Event) where
           gives-3 = neither (λ g. omega arith) (λ r. a (r .1));
           gives-4 = both n (f, a, h);
           gives-5 = neither (λ g. omega arith) (λ r. r .2 h);
+          gives-11 = neither (λ g. omega arith) (λ r. r .2 h);
           gives-0 = neither (λ g. omega arith) (λ r. r .2 h);
           refused = λ g. as-given m e 4 s;
         }
@@ -105,36 +113,65 @@ module _ (m : Machine) (e : Event) where
           gives-3 = neither (λ g. omega arith) (λ r. a (r .1));
           gives-4 = neither (λ g. omega arith) (λ r. l (r .2));
           gives-5 = both n (f, a, l, h);
+          gives-11 = neither (λ g. omega arith) (λ r. r .3 h);
           gives-0 = neither (λ g. omega arith) (λ r. r .3 h);
           refused = λ g. as-given m e 5 s;
         }
 
-    by-0 : ltb largest-stamp (e .stamp .0) ≡ false → ltb (e .stamp .0) (m .last .0) ≡ false → Refusals m e
-    unfolding step judge
-    by-0 x y =
-        let n : step m e .number ≡ 0 = rw (w, i, x, y) in
-        let f : ¬ NotWellFormed m = is-well-formed m w in
-        let a : ¬ NotAllowed e = is-allowed e j i in
-        let l : ¬ AboveLargest e = not-above e x in
-        let h : ¬ BeforeLast m e = not-before m e y in
-        record {
-          gives-2 = neither (λ g. omega arith) f;
-          gives-3 = neither (λ g. omega arith) (λ r. a (r .1));
-          gives-4 = neither (λ g. omega arith) (λ r. l (r .2));
-          gives-5 = neither (λ g. omega arith) (λ r. h (r .3));
-          gives-0 = both n (f, a, l, h);
-          refused = λ g. absurd (g n);
-        }
+    module _ (x : ltb largest-stamp (e .stamp .0) ≡ false) (y : ltb (e .stamp .0) (m .last .0) ≡ false) where
+      by-11 : too-many m e ≡ true → Refusals m e
+      unfolding step judge
+      by-11 z =
+          let s : step m e ≡ refusal m 11 = rw (w, i, x, y, z) in
+          let n : step m e .number ≡ 11 = ap (λ r. r .number) s in
+          let f : ¬ NotWellFormed m = is-well-formed m w in
+          let a : ¬ NotAllowed e = is-allowed e j i in
+          let l : ¬ AboveLargest e = not-above e x in
+          let b : ¬ BeforeLast m e = not-before m e y in
+          let p = and-eq-true-iff (is-new m e) (eqb (how-many (m .held)) most-held) .0 z in
+          let h : TooMany m e = (p .0, eqb-true _ _ (p .1)) in
+          record {
+            gives-2 = neither (λ g. omega arith) f;
+            gives-3 = neither (λ g. omega arith) (λ r. a (r .1));
+            gives-4 = neither (λ g. omega arith) (λ r. l (r .2));
+            gives-5 = neither (λ g. omega arith) (λ r. b (r .3));
+            gives-11 = both n (f, a, l, b, h);
+            gives-0 = neither (λ g. omega arith) (λ r. r .4 h);
+            refused = λ g. as-given m e 11 s;
+          }
+
+      by-0 : too-many m e ≡ false → Refusals m e
+      unfolding step judge
+      by-0 z =
+          let n : step m e .number ≡ 0 = rw (w, i, x, y, z) in
+          let f : ¬ NotWellFormed m = is-well-formed m w in
+          let a : ¬ NotAllowed e = is-allowed e j i in
+          let l : ¬ AboveLargest e = not-above e x in
+          let b : ¬ BeforeLast m e = not-before m e y in
+          let h : ¬ TooMany m e = not-too-many m e z in
+          record {
+            gives-2 = neither (λ g. omega arith) f;
+            gives-3 = neither (λ g. omega arith) (λ r. a (r .1));
+            gives-4 = neither (λ g. omega arith) (λ r. l (r .2));
+            gives-5 = neither (λ g. omega arith) (λ r. b (r .3));
+            gives-11 = neither (λ g. omega arith) (λ r. h (r .4));
+            gives-0 = both n (f, a, l, b, h);
+            refused = λ g. absurd (g n);
+          }
 
 pub refusals : (m : Machine) (e : Event) → Refusals m e
-refusals m e = go (well-formed m) refl (input (e .kind) (e .key)) refl (ltb largest-stamp (e .stamp .0)) refl (ltb (e .stamp .0) (m .last .0)) refl
+refusals m e =
+    go (well-formed m) refl (input (e .kind) (e .key)) refl (ltb largest-stamp (e .stamp .0)) refl (ltb (e .stamp .0) (m .last .0)) refl
+    (too-many m e) refl
   where
     go : (b : Bool) → well-formed m ≡ b → (i : Option Input) → input (e .kind) (e .key) ≡ i
         → (x : Bool) → ltb largest-stamp (e .stamp .0) ≡ x
         → (y : Bool) → ltb (e .stamp .0) (m .last .0) ≡ y
+        → (z : Bool) → too-many m e ≡ z
         → Refusals m e
-    go false w i p x q y r = by-2 m e w
-    go true w none p x q y r = by-3 m e w p
-    go true w (some j) p true q y r = by-4 m e j w p q
-    go true w (some j) p false q true r = by-5 m e j w p q r
-    go true w (some j) p false q false r = by-0 m e j w p q r
+    go false w i p x q y r z u = by-2 m e w
+    go true w none p x q y r z u = by-3 m e w p
+    go true w (some j) p true q y r z u = by-4 m e j w p q
+    go true w (some j) p false q true r z u = by-5 m e j w p q r
+    go true w (some j) p false q false r true u = by-11 m e j w p q r u
+    go true w (some j) p false q false r false u = by-0 m e j w p q r u

@@ -8,7 +8,7 @@ use lib.ListN.{length}
 use borrow.Author.Tests.{eqb-true}
 use Rattle.rules.specs.OneEvent.{one-event}
 use Rattle.rules.specs.ZeroDelay.{sign-of, signs, shown, Sending, backspace, sign, send, take-back, sent}
-use Rattle.rules.specs.GivenBack.{Answer, step}
+use Rattle.rules.specs.GivenBack.{acts-as, Answer, step}
 use Rattle.rules.specs.Sequences.{after, along, items-in, sendings-in, without-last, typed, signs-among}
 use Rattle.rules.specs.Demand3.{Begins}
 use Rattle.rules.specs.declared.Machine.{Machine}
@@ -80,7 +80,7 @@ step-shows l m e =
     step-cases (Shows l m) m e
     (λ n _. ap (λ (k : List ℕ). k ++ shown (m .resting)) (sym (append-nil l)))
     (λ i _.
-    let d = one-event (m .settings) (e .stamp) (m .resting) i in
+    let d = one-event (m .settings) (e .stamp) (m .resting) (acts-as (m .held) i) in
     typed-sent l (shown (m .resting)) (signs (d .items) ++ shown (d .resting))
     ∙ sym (append-assoc l (signs (d .items)) (shown (d .resting))))
 

@@ -10,7 +10,7 @@ use Rattle.rules.specs.States.{lag, deadline}
 use Rattle.rules.specs.OneEvent.{Done, mark, same-thumb, same-key, second-character-takes-thumb, second-thumb-takes-character, short-overlap, late, act, due-by, settle, one-event}
 use Rattle.rules.specs.ZeroDelay.{character, sign-of, signs, shown, Sending, backspace, send, take-back, sent}
 use Rattle.rules.specs.Layout.{code-point}
-use Rattle.rules.specs.GivenBack.{Answer}
+use Rattle.rules.specs.GivenBack.{acts-as, Answer}
 use Rattle.rules.specs.Demand3.{Begins}
 use Rattle.rules.specs.StepFacts.{StepSizes, SendingRule, NoneIs0, Sendable, plainly, behind-backspace, StepSendable, OneShown}
 use Rattle.rules.specs.declared.Stamp.{Stamp}
@@ -168,10 +168,11 @@ step-sizes m e =
     record {
       at-most-2-items =
           step-cases (λ (r : Answer). length (r .items) ≤ 2) m e (λ _ _. omega arith)
-          (λ i _. one-event-few (m .settings) (e .stamp) (m .resting) i);
+          (λ i _. one-event-few (m .settings) (e .stamp) (m .resting) (acts-as (m .held) i));
       at-most-4-sendings =
           step-cases (λ (r : Answer). length (r .sendings) ≤ 4) m e (λ _ _. omega arith)
-          (λ i _. sendings-few (one-event (m .settings) (e .stamp) (m .resting) i) (one-event-few (m .settings) (e .stamp) (m .resting) i));
+          (λ i _. sendings-few (one-event (m .settings) (e .stamp) (m .resting) (acts-as (m .held) i))
+          (one-event-few (m .settings) (e .stamp) (m .resting) (acts-as (m .held) i)));
     }
   where
     sendings-few : (d : Done) → Few d → length (sent (shown (m .resting)) (signs (d .items) ++ shown (d .resting))) ≤ 4
@@ -217,7 +218,8 @@ sent-sendable (c ∷ b ∷ p) q one few n = absurd (omega arith)
 pub step-sendable : (m : Machine) (e : Event) → StepSendable m e
 step-sendable m e =
     step-cases (λ (r : Answer). Sendable (r .sendings)) m e (λ _ _. plainly [] (omega arith) tt)
-    (λ i _. by (one-event (m .settings) (e .stamp) (m .resting) i) (one-event-few (m .settings) (e .stamp) (m .resting) i))
+    (λ i _. by (one-event (m .settings) (e .stamp) (m .resting) (acts-as (m .held) i))
+    (one-event-few (m .settings) (e .stamp) (m .resting) (acts-as (m .held) i)))
   where
     by : (d : Done) → Few d → Sendable (sent (shown (m .resting)) (signs (d .items) ++ shown (d .resting)))
     by d few =

@@ -1,17 +1,19 @@
 -- One way to show something of a step: show it of a refusal, and of an accepted event with all that was tested of it.
 use Prim.Native.Nat.{ℕ, _≤_, _<_}
-use mathlib.Core.Bool.{Bool, true, false}
+use mathlib.Core.Bool.{Bool, true, false, not, _&&_, and-eq-true-iff}
 use mathlib.Core.List.{List, [], _∷_}
 use mathlib.Core.Option.{Option, none, some}
-use mathlib.Core.Path.{_≡_, refl, sym, subst}
+use mathlib.Core.Path.{_≡_, refl, sym, _∙_, ap, subst}
 use lib.Dec.{eqb, ltb}
-use borrow.Author.Tests.{ltb-true, ltb-false, le-ltb, eqb-true}
+use borrow.Author.Tests.{ltb-true, ltb-false, le-ltb, eqb-true, eqb-false}
 use Rattle.rules.specs.Choice.{if_then_else_}
-use Rattle.rules.specs.Numbers.{keys, largest-stamp, within}
-use Rattle.rules.specs.States.{is-key, well-formed}
+use Rattle.rules.specs.Numbers.{keys, largest-stamp, most-held, within, in-range}
+use Rattle.rules.specs.Held.{is-held, hold, release, how-many, held-formed}
+use Rattle.rules.specs.States.{at, is-key, keys-below, at-or-before, stamps-by, in-order, well-formed}
 use Rattle.rules.specs.OneEvent.{one-event}
-use Rattle.rules.specs.GivenBack.{with-character, with-thumb, with-0, input, Verdict, refused, accepted, judge, judge-input, Answer, refusal, acceptance, answer, step}
+use Rattle.rules.specs.GivenBack.{with-character, with-thumb, with-0, input, acts-as, held-after, Verdict, refused, accepted, is-new, too-many, judge, judge-input, Answer, refusal, acceptance, answer, step}
 use Rattle.rules.specs.Sequences.{Press, press}
+use Rattle.rules.specs.HeldRules.{held-then}
 use Rattle.rules.specs.declared.Stamp.{Stamp}
 use Rattle.rules.specs.declared.Key.{Key}
 use Rattle.rules.specs.declared.Thumb.{Thumb}
@@ -19,7 +21,8 @@ use Rattle.rules.specs.declared.Machine.{Machine}
 use Rattle.rules.specs.declared.Event.{Event}
 use Rattle.rules.specs.declared.Input.{Input}
 use Rattle.rules.specs.declared.Input.the-variants.{CharacterDown, CharacterUp, ThumbDown, ThumbUp, FunctionDown, Tick}
-use Rattle.rules.proofs.Choices.{by-test}
+use Rattle.rules.proofs.Choices.{both-ways, by-test, either}
+use Rattle.rules.proofs.Held.{held-facts, held-by-hold, held-by-release, FormedSet, set-formed, formed-hold, formed-release}
 
 -- the press that an input is
 abbrev pub pressed : Stamp → Input → List Press
@@ -47,11 +50,14 @@ KeyBelow (ThumbUp P) = Unit {0}
 KeyBelow FunctionDown = Unit {0}
 KeyBelow Tick = Unit {0}
 
--- what the kind and the key of an event say of the input that they give
+-- what the kind and the key of an event say of the input that they give, and of what it acts as with the keys of h held
 pub record Parsed (kind : ℕ) (k : Key) (i : Input) : Type 0 where
-  pub presses : (now : Stamp) → (if eqb kind 1 then (press k now ∷ []) else []) ≡ pressed now i
   pub key-event : within 1 5 kind ≡ is-key-input i
-  pub key-below : KeyBelow i
+  pub presses : (h : ℕ) (now : Stamp) → (if eqb kind 1 && not (is-held h k) then (press k now ∷ []) else []) ≡ pressed now (acts-as h i)
+  pub key-below : (h : ℕ) → KeyBelow (acts-as h i)
+  pub room : (h : ℕ) → FormedSet h → ((eqb kind 1 && not (is-held h k)) && eqb (how-many h) most-held) ≡ false
+      → FormedSet (held-after h (acts-as h i))
+  pub keys-held : (h : ℕ) (j : Key) → is-held (held-after h (acts-as h i)) j ≡ held-then kind k j (is-held h j)
 
 data Allowed (kind : ℕ) (k : Key) : Option Input → Type 0 where
   not-allowed : Allowed kind k none
@@ -73,66 +79,130 @@ module _ (k : Key) where
   or-kind n kind {o} a b =
       by-test (Allowed kind k) (eqb kind n) (λ h. subst (λ (x : ℕ). Allowed x k o) (sym (eqb-true kind n h)) a) (λ _. b)
 
+-- a down holds its key and an up releases it, also where they act as a tick
+down-holds : (h : ℕ) (k : Key) → held-after h (acts-as h (CharacterDown k)) ≡ hold h k
+down-holds h k = either (is-held h k) (λ t. rw t (sym (held-facts h k .held-already t))) (λ f. rw f)
+
+up-releases : (h : ℕ) (k : Key) → held-after h (acts-as h (CharacterUp k)) ≡ release h k
+up-releases h k = either (is-held h k) (λ t. rw t) (λ f. rw f (sym (held-facts h k .free-already f)))
+
+-- a down is a press of a new key, or acts as a tick
+down-parses : (k : Key) → k .0 < keys → Parsed 1 k (CharacterDown k)
+down-parses k lt =
+    record {
+      key-event = refl;
+      presses = λ h now. either (is-held h k) (λ t. rw t) (λ f. rw f);
+      key-below = λ h. both-ways KeyBelow (is-held h k) tt lt;
+      room = λ h f. either (is-held h k) (λ t _. rw t f) (λ n. rw n (λ few. formed-hold h k f (eqb-false _ _ few)));
+      keys-held = λ h j. ap (λ (g : ℕ). is-held g j) (down-holds h k) ∙ held-by-hold h k j lt;
+    }
+
+-- an up releases a held key, or acts as a tick
+up-parses : (k : Key) → Parsed 2 k (CharacterUp k)
+up-parses k =
+    record {
+      key-event = refl;
+      presses = λ h now. both-ways (λ (i : Input). [] ≡ pressed now i) (is-held h k) refl refl;
+      key-below = λ h. both-ways KeyBelow (is-held h k) tt tt;
+      room = λ h f _. both-ways (λ (i : Input). FormedSet (held-after h i)) (is-held h k) (formed-release h k f) f;
+      keys-held = λ h j. ap (λ (g : ℕ). is-held g j) (up-releases h k) ∙ held-by-release h k j;
+    }
+
+-- kinds 3 to 6: no key is pressed, held or released
+module _ (k : Key) where
+  thumb-down-parses : (P : Thumb) → Parsed 3 k (ThumbDown P)
+  thumb-down-parses P =
+      record { key-event = refl; presses = λ h now. refl; key-below = λ h. tt; room = λ h f _. f; keys-held = λ h j. refl }
+
+  thumb-up-parses : (P : Thumb) → Parsed 4 k (ThumbUp P)
+  thumb-up-parses P =
+      record { key-event = refl; presses = λ h now. refl; key-below = λ h. tt; room = λ h f _. f; keys-held = λ h j. refl }
+
+  function-parses : Parsed 5 k FunctionDown
+  function-parses =
+      record { key-event = refl; presses = λ h now. refl; key-below = λ h. tt; room = λ h f _. f; keys-held = λ h j. refl }
+
+  tick-parses : Parsed 6 k Tick
+  tick-parses =
+      record { key-event = refl; presses = λ h now. refl; key-below = λ h. tt; room = λ h f _. f; keys-held = λ h j. refl }
+
 parses : (kind : ℕ) (k : Key) → Allowed kind k (input kind k)
 unfolding input
 parses kind k =
-    or-kind k 1 kind
-    (with-character-parses k 1 CharacterDown (λ b. record { presses = λ now. refl; key-event = refl; key-below = b }))
-    (or-kind k 2 kind
-    (with-character-parses k 2 CharacterUp (λ b. record { presses = λ now. refl; key-event = refl; key-below = tt }))
-    (or-kind k 3 kind
-    (with-thumb-parses k 3 ThumbDown (λ P. record { presses = λ now. refl; key-event = refl; key-below = tt }))
-    (or-kind k 4 kind
-    (with-thumb-parses k 4 ThumbUp (λ P. record { presses = λ now. refl; key-event = refl; key-below = tt }))
-    (or-kind k 5 kind
-    (with-0-parses k 5 FunctionDown (record { presses = λ now. refl; key-event = refl; key-below = tt }))
-    (or-kind k 6 kind
-    (with-0-parses k 6 Tick (record { presses = λ now. refl; key-event = refl; key-below = tt }))
+    or-kind k 1 kind (with-character-parses k 1 CharacterDown (down-parses k))
+    (or-kind k 2 kind (with-character-parses k 2 CharacterUp (λ _. up-parses k))
+    (or-kind k 3 kind (with-thumb-parses k 3 ThumbDown (thumb-down-parses k))
+    (or-kind k 4 kind (with-thumb-parses k 4 ThumbUp (thumb-up-parses k))
+    (or-kind k 5 kind (with-0-parses k 5 FunctionDown (function-parses k))
+    (or-kind k 6 kind (with-0-parses k 6 Tick (tick-parses k))
     not-allowed)))))
 
--- all that was tested of an event that is accepted as an input
+-- the held set of a well-formed machine
+pub machine-formed : (m : Machine) → well-formed m ≡ true → FormedSet (m .held)
+unfolding well-formed
+machine-formed m w =
+    let y = m .resting in
+    let rest = in-range (m .settings) && keys-below y && stamps-by (m .last) y && at-or-before (m .last) (at largest-stamp) && in-order y in
+    set-formed (m .held) (and-eq-true-iff rest (held-formed (m .held)) .0 w .1)
+
+-- all that was tested of an event with the input i that is accepted, and what follows for what i acts as
 pub record Accepted (m : Machine) (e : Event) (i : Input) : Type 0 where
   pub was-well-formed : well-formed m ≡ true
   pub is-input : input (e .kind) (e .key) ≡ some i
-  pub parsed : Parsed (e .kind) (e .key) i
   pub not-above : e .stamp .0 ≤ largest-stamp
   pub not-before : m .last .0 ≤ e .stamp .0
+  pub key-event : within 1 5 (e .kind) ≡ is-key-input i
+  pub presses : (if is-new m e then (press (e .key) (e .stamp) ∷ []) else []) ≡ pressed (e .stamp) (acts-as (m .held) i)
+  pub key-below : KeyBelow (acts-as (m .held) i)
+  pub stays-formed : FormedSet (held-after (m .held) (acts-as (m .held) i))
+  pub keys-held : (j : Key) → is-held (held-after (m .held) (acts-as (m .held) i)) j ≡ held-then (e .kind) (e .key) j (is-held (m .held) j)
+
+-- what an accepted event gives back
+abbrev pub taken : Machine → Event → Input → Answer
+taken m e i =
+    acceptance m (e .stamp) (held-after (m .held) i) (one-event (m .settings) (e .stamp) (m .resting) i)
 
 -- by the verdict: refused, or accepted with all that was tested
 pub judge-cases :
     (P : Verdict → Type 0) (m : Machine) (e : Event)
     → ((n : ℕ) → eqb n 0 ≡ false → P (refused n))
-    → ((i : Input) → Accepted m e i → P (accepted i))
+    → ((i : Input) → Accepted m e i → P (accepted (acts-as (m .held) i)))
     → P (judge m e)
-unfolding judge
+unfolding judge is-new
 judge-cases P m e no-way yes-way =
     by-test P (well-formed m) (λ w. on-input w (input (e .kind) (e .key)) refl (parses (e .kind) (e .key))) (λ _. no-way 2 refl)
   where
     on-input : well-formed m ≡ true → (o : Option Input) → input (e .kind) (e .key) ≡ o → Allowed (e .kind) (e .key) o
-        → P (judge-input (m .last) (e .stamp) o)
+        → P (judge-input m e o)
     on-input w none h not-allowed = no-way 3 refl
     on-input w (some i) h (allowed a) =
         by-test P (ltb largest-stamp (e .stamp .0)) (λ _. no-way 4 refl)
         (λ low. by-test P (ltb (e .stamp .0) (m .last .0)) (λ _. no-way 5 refl)
-        (λ late. yes-way i (record {
+        (λ late. by-test P (too-many m e) (λ _. no-way 11 refl)
+        (λ room. yes-way i (record {
           was-well-formed = w;
           is-input = h;
-          parsed = a;
           not-above = ltb-false _ _ low;
           not-before = ltb-false _ _ late;
-        })))
+          key-event = a .key-event;
+          presses = a .presses (m .held) (e .stamp);
+          key-below = a .key-below (m .held);
+          stays-formed = a .room (m .held) (machine-formed m w) room;
+          keys-held = a .keys-held (m .held);
+        }))))
 
 pub step-cases :
     (P : Answer → Type 0) (m : Machine) (e : Event)
     → ((n : ℕ) → eqb n 0 ≡ false → P (refusal m n))
-    → ((i : Input) → Accepted m e i → P (acceptance m (e .stamp) (one-event (m .settings) (e .stamp) (m .resting) i)))
+    → ((i : Input) → Accepted m e i → P (taken m e (acts-as (m .held) i)))
     → P (step m e)
 unfolding step
 step-cases P m e no-way yes-way = judge-cases (λ v. P (answer m (e .stamp) v)) m e no-way yes-way
 
 -- an event that passes every test is accepted
 pub step-accepted : (m : Machine) (e : Event) (i : Input) → well-formed m ≡ true → input (e .kind) (e .key) ≡ some i
-    → e .stamp .0 ≤ largest-stamp → m .last .0 ≤ e .stamp .0
-    → step m e ≡ acceptance m (e .stamp) (one-event (m .settings) (e .stamp) (m .resting) i)
+    → e .stamp .0 ≤ largest-stamp → m .last .0 ≤ e .stamp .0 → too-many m e ≡ false
+    → step m e ≡ taken m e (acts-as (m .held) i)
 unfolding step judge
-step-accepted m e i w h low late = rw (w, h, le-ltb largest-stamp (e .stamp .0) low, le-ltb (e .stamp .0) (m .last .0) late)
+step-accepted m e i w h low late room =
+    rw (w, h, le-ltb largest-stamp (e .stamp .0) low, le-ltb (e .stamp .0) (m .last .0) late, room)

@@ -11,7 +11,7 @@ use Rattle.rules.specs.Choice.{if_then_else_}
 use Rattle.rules.specs.Numbers.{within}
 use Rattle.rules.specs.States.{deadline}
 use Rattle.rules.specs.OneEvent.{Done, _leaving_, nothing, late, act, due-by, settle, and-then, one-event}
-use Rattle.rules.specs.GivenBack.{input, Answer, step}
+use Rattle.rules.specs.GivenBack.{input, acts-as, held-after, Answer, step}
 use Rattle.rules.specs.Sequences.{after, along, items-in, key-event-in}
 use Rattle.rules.specs.Demand3.{tick, with-event}
 use Rattle.rules.specs.declared.Stamp.{Stamp}
@@ -24,7 +24,7 @@ use Rattle.rules.specs.declared.Event.{Event}
 use Rattle.rules.specs.declared.Input.{Input}
 use Rattle.rules.specs.declared.Input.the-variants.{CharacterDown, CharacterUp, ThumbDown, ThumbUp, FunctionDown, Tick}
 use Rattle.rules.proofs.Choices.{by-test}
-use Rattle.rules.proofs.Steps.{is-key-input, Accepted, step-cases}
+use Rattle.rules.proofs.Steps.{is-key-input, Accepted, taken, step-cases}
 use Rattle.rules.proofs.StepFacts.{late-leaves-S1}
 
 -- items in front of what is done
@@ -74,27 +74,36 @@ abbrev first-stamp : List Event → Stamp → Stamp
 first-stamp [] t = t
 first-stamp (e ∷ ks) t = e .stamp
 
--- what an event's input does
-abbrev act-as : Settings → Stamp → Resting → Option Input → Done
-act-as s now y none = nothing leaving y
-act-as s now y (some i) = act s now y i
+-- what an event's input does, with the keys of h held, and the held set after it
+abbrev act-as : Settings → Stamp → ℕ → Resting → Option Input → Done
+act-as s now h y none = nothing leaving y
+act-as s now h y (some i) = act s now y (acts-as h i)
+
+abbrev held-by : ℕ → Option Input → ℕ
+held-by h none = h
+held-by h (some i) = held-after h (acts-as h i)
 
 -- from a state that is settled up to the first stamp
-abbrev onward : Settings → Stamp → Resting → List Event → Done
-onward s t y [] = nothing leaving y
-onward s t y (e ∷ ks) =
-    and-then (act-as s (e .stamp) y (input (e .kind) (e .key)))
-    (λ z. and-then (settle s (first-stamp ks t) z) (λ v. onward s t v ks))
+abbrev onward : Settings → Stamp → ℕ → Resting → List Event → Done
+onward s t h y [] = nothing leaving y
+onward s t h y (e ∷ ks) =
+    and-then (act-as s (e .stamp) h y (input (e .kind) (e .key)))
+    (λ z. and-then (settle s (first-stamp ks t) z) (λ v. onward s t (held-by h (input (e .kind) (e .key))) v ks))
 
-abbrev keyed : Settings → Stamp → List Event → Resting → Done
-keyed s t ks y = and-then (settle s (first-stamp ks t) y) (λ v. onward s t v ks)
+abbrev keyed : Settings → Stamp → ℕ → List Event → Resting → Done
+keyed s t h ks y = and-then (settle s (first-stamp ks t) y) (λ v. onward s t h v ks)
+
+-- the held set after them
+abbrev pub held-over : ℕ → List Event → ℕ
+held-over h [] = h
+held-over h (e ∷ ks) = held-over (held-by h (input (e .kind) (e .key))) ks
 
 -- settling sooner changes nothing of it
-keyed-sooner : (s : Settings) (t u : Stamp) (ks : List Event) (y : Resting) → u .0 ≤ first-stamp ks t .0
-    → and-then (settle s u y) (keyed s t ks) ≡ keyed s t ks y
-keyed-sooner s t u ks y le =
-    sym (and-then-assoc (settle s u y) (settle s (first-stamp ks t)) (λ v. onward s t v ks))
-    ∙ ap (λ (d : Done). and-then d (λ v. onward s t v ks)) (settle-sooner s u (first-stamp ks t) le y)
+keyed-sooner : (s : Settings) (t u : Stamp) (h : ℕ) (ks : List Event) (y : Resting) → u .0 ≤ first-stamp ks t .0
+    → and-then (settle s u y) (keyed s t h ks) ≡ keyed s t h ks y
+keyed-sooner s t u h ks y le =
+    sym (and-then-assoc (settle s u y) (settle s (first-stamp ks t)) (λ v. onward s t h v ks))
+    ∙ ap (λ (d : Done). and-then d (λ v. onward s t h v ks)) (settle-sooner s u (first-stamp ks t) le y)
 
 act-tick : (s : Settings) (now : Stamp) (y : Resting) → act s now y Tick ≡ (nothing leaving y)
 act-tick s now S1 = refl
@@ -139,64 +148,89 @@ starts-after m (e ∷ es) t =
     step-cases
     (λ (r : Answer).
     step (after (r .machine) es) (tick t) .number ≡ 0
-    → m .last .0 ≤ first-stamp (key-event-in e r ++ along key-event-in (r .machine) es) t .0)
+    → m .last .0 ≤ first-stamp (key-event-in m e r ++ along key-event-in (r .machine) es) t .0)
     m
     e
     (λ n z h. rw z (starts-after m es t h))
     (λ i a h.
-    by-test (λ (l : List Event). m .last .0 ≤ first-stamp (l ++ along key-event-in (record { settings = m .settings; resting = one-event (m .settings) (e .stamp) (m .resting) i .resting; last = e .stamp }) es) t .0)
+    by-test (λ (l : List Event). m .last .0 ≤ first-stamp (l ++ along key-event-in (taken m e (acts-as (m .held) i) .machine) es) t .0)
     (within 1 5 (e .kind))
     (λ _. a .not-before)
     (λ _. le-trans (a .not-before) (starts-after _ es t h)))
 
 -- an accepted key event acts, and the rest follows
-key-event-first : (s : Settings) (t : Stamp) (e : Event) (i : Input) (ks : List Event) (y : Resting)
+key-event-first : (s : Settings) (t : Stamp) (h : ℕ) (e : Event) (i : Input) (ks : List Event) (y : Resting)
     → input (e .kind) (e .key) ≡ some i
-    → and-then (one-event s (e .stamp) y i) (keyed s t ks) ≡ keyed s t (e ∷ ks) y
+    → and-then (one-event s (e .stamp) y (acts-as h i)) (keyed s t (held-after h (acts-as h i)) ks) ≡ keyed s t h (e ∷ ks) y
 unfolding one-event
-key-event-first s t e i ks y h =
-    and-then-assoc (settle s (e .stamp) y) (λ v. act s (e .stamp) v i) (keyed s t ks)
-    ∙ ap (λ (o : Option Input). and-then (settle s (e .stamp) y) (λ v. and-then (act-as s (e .stamp) v o) (keyed s t ks))) (sym h)
+key-event-first s t h e i ks y is =
+    and-then-assoc (settle s (e .stamp) y) (λ v. act s (e .stamp) v (acts-as h i)) (keyed s t (held-after h (acts-as h i)) ks)
+    ∙ ap (λ (o : Option Input). and-then (settle s (e .stamp) y) (λ v. and-then (act-as s (e .stamp) h v o) (keyed s t (held-by h o) ks)))
+    (sym is)
 
 -- What a sequence closed by an accepted tick does is what its key events do.
 pub closes : (m : Machine) (es : List Event) (t : Stamp) → step (after m es) (tick t) .number ≡ 0
-    → closed m es t ≡ keyed (m .settings) t (along key-event-in m es) (m .resting)
+    → closed m es t ≡ keyed (m .settings) t (m .held) (along key-event-in m es) (m .resting)
 closes m [] t =
     step-cases
-    (λ (r : Answer). r .number ≡ 0 → ((r .items ++ []) leaving (r .machine .resting)) ≡ keyed (m .settings) t [] (m .resting)) m (tick t)
+    (λ (r : Answer). r .number ≡ 0 → ((r .items ++ []) leaving (r .machine .resting)) ≡ keyed (m .settings) t (m .held) [] (m .resting))
+    m
+    (tick t)
     (λ n z h. not-0 n z h)
     (λ i a _. ap (λ (d : Done). (d .items ++ []) leaving (d .resting))
-    (ap (one-event (m .settings) t (m .resting)) (tick-input t i (a .is-input)) ∙ one-tick (m .settings) t (m .resting)))
+    (ap (λ (j : Input). one-event (m .settings) t (m .resting) (acts-as (m .held) j)) (tick-input t i (a .is-input))
+    ∙ one-tick (m .settings) t (m .resting)))
 closes m (e ∷ es) t =
     step-cases
     (λ (r : Answer).
     step (after (r .machine) es) (tick t) .number ≡ 0
     → after-items (r .items) (closed (r .machine) es t)
-    ≡ keyed (m .settings) t (key-event-in e r ++ along key-event-in (r .machine) es) (m .resting))
+    ≡ keyed (m .settings) t (m .held) (key-event-in m e r ++ along key-event-in (r .machine) es) (m .resting))
     m
     e
     (λ n z h. rw z (closes m es t h))
     (λ i a h. accepted-closes i a (closes (next i) es t h) (starts-after (next i) es t h))
   where
     next : Input → Machine
-    next i =
-        record { settings = m .settings; resting = one-event (m .settings) (e .stamp) (m .resting) i .resting; last = e .stamp }
+    next i = taken m e (acts-as (m .held) i) .machine
 
     accepted-closes : (i : Input) → Accepted m e i
-        → closed (next i) es t ≡ keyed (m .settings) t (along key-event-in (next i) es) (next i .resting)
+        → closed (next i) es t ≡ keyed (m .settings) t (next i .held) (along key-event-in (next i) es) (next i .resting)
         → e .stamp .0 ≤ first-stamp (along key-event-in (next i) es) t .0
-        → after-items (one-event (m .settings) (e .stamp) (m .resting) i .items) (closed (next i) es t)
-        ≡ keyed (m .settings) t ((if within 1 5 (e .kind) then (e ∷ []) else []) ++ along key-event-in (next i) es) (m .resting)
+        → after-items (one-event (m .settings) (e .stamp) (m .resting) (acts-as (m .held) i) .items) (closed (next i) es t)
+        ≡ keyed (m .settings) t (m .held) ((if within 1 5 (e .kind) then (e ∷ []) else []) ++ along key-event-in (next i) es) (m .resting)
     accepted-closes i a more le =
-        let d = one-event (m .settings) (e .stamp) (m .resting) i in
+        let d = one-event (m .settings) (e .stamp) (m .resting) (acts-as (m .held) i) in
         let ks = along key-event-in (next i) es in
         ap (after-items (d .items)) more
         ∙ by-test
-        (λ (l : List Event). and-then d (keyed (m .settings) t ks) ≡ keyed (m .settings) t (l ++ ks) (m .resting))
+        (λ (l : List Event). and-then d (keyed (m .settings) t (next i .held) ks) ≡ keyed (m .settings) t (m .held) (l ++ ks) (m .resting))
         (within 1 5 (e .kind))
-        (λ _. key-event-first (m .settings) t e i ks (m .resting) (a .is-input))
+        (λ _. key-event-first (m .settings) t (m .held) e i ks (m .resting) (a .is-input))
         (λ no-key.
-        ap (λ (f : Done). and-then f (keyed (m .settings) t ks))
-        (ap (one-event (m .settings) (e .stamp) (m .resting)) (only-tick i (sym (a .parsed .key-event) ∙ no-key))
-        ∙ one-tick (m .settings) (e .stamp) (m .resting))
-        ∙ keyed-sooner (m .settings) t (e .stamp) ks (m .resting) le)
+        ap (λ (j : Input). and-then (one-event (m .settings) (e .stamp) (m .resting) (acts-as (m .held) j))
+        (keyed (m .settings) t (held-after (m .held) (acts-as (m .held) j)) ks))
+        (only-tick i (sym (a .key-event) ∙ no-key))
+        ∙ ap (λ (f : Done). and-then f (keyed (m .settings) t (m .held) ks)) (one-tick (m .settings) (e .stamp) (m .resting))
+        ∙ keyed-sooner (m .settings) t (e .stamp) (m .held) ks (m .resting) le)
+
+-- The held set that it leaves is that of its key events.
+pub held-closes : (m : Machine) (es : List Event) (t : Stamp)
+    → after m (with-event es (tick t)) .held ≡ held-over (m .held) (along key-event-in m es)
+held-closes m [] t =
+    step-cases (λ (r : Answer). r .machine .held ≡ m .held) m (tick t) (λ n z. refl)
+    (λ i a. ap (λ (j : Input). held-after (m .held) (acts-as (m .held) j)) (tick-input t i (a .is-input)))
+held-closes m (e ∷ es) t =
+    step-cases
+    (λ (r : Answer).
+    after (r .machine) (with-event es (tick t)) .held ≡ held-over (m .held) (key-event-in m e r ++ along key-event-in (r .machine) es))
+    m
+    e
+    (λ n z. rw z (held-closes m es t))
+    (λ i a.
+    let next = taken m e (acts-as (m .held) i) .machine in
+    let ks = along key-event-in next es in
+    held-closes next es t
+    ∙ by-test (λ (l : List Event). held-over (next .held) ks ≡ held-over (m .held) (l ++ ks)) (within 1 5 (e .kind))
+    (λ _. ap (λ (o : Option Input). held-over (held-by (m .held) o) ks) (sym (a .is-input)))
+    (λ no-key. ap (λ (j : Input). held-over (held-after (m .held) (acts-as (m .held) j)) ks) (only-tick i (sym (a .key-event) ∙ no-key))))

@@ -5,15 +5,17 @@ use Prim.Native.Char.{code}
 use mathlib.Core.Bool.{true}
 use mathlib.Core.List.{List, [], _∷_, _++_}
 use mathlib.Core.Path.{_≡_, refl, sym}
+use lib.Count.{onesIn}
 use lib.Dec.{lit≤}
 use lib.ListN.{length}
 use Rattle.rules.specs.Numbers.{in-range, up, A, B, FJ, FL, D, X, W}
 use Rattle.rules.specs.Layout.{table, code-point}
 use Rattle.rules.specs.LayoutFacts.{key}
+use Rattle.rules.specs.Held.{is-held, hold, release, how-many, held-formed}
 use Rattle.rules.specs.States.{at, well-formed}
 use Rattle.rules.specs.OneEvent.{mark, same-thumb, same-key, second-character-takes-thumb, second-thumb-takes-character, short-overlap, settle, one-event}
 use Rattle.rules.specs.ZeroDelay.{character, sent, sign}
-use Rattle.rules.specs.GivenBack.{input, judge, step}
+use Rattle.rules.specs.GivenBack.{input, is-new, judge, step}
 use Rattle.rules.specs.Sequences.{press, characters, state, presses, items, line, screen}
 use Rattle.rules.specs.Demand3.{with-event, SameText, TakesNothing}
 use Rattle.rules.specs.Examples.{usual, with-solo, が}
@@ -24,14 +26,14 @@ use Rattle.rules.proofs.Demand3.{demand-3}
 e : ℕ → ℕ → ℕ → Event
 e kind k n = record { kind = kind; key = key k; stamp = at n }
 
--- 21@0, key 31 (refused 3), R@30, 24@10 (refused 5), a tick, 21 up@60, a stamp too large (refused 4), 24@100.
+-- 21@0, key 31 (refused 3), 21@20 (a repeat), R@30, 24@10 (refused 5), a tick, 21 up@60, a stamp too large (refused 4), 24@100.
 busy : List Event
 busy =
-    e 1 21 0 ∷ e 1 31 5 ∷ e 3 1 30 ∷ e 1 24 10 ∷ e 6 0 40 ∷ e 2 21 60 ∷ e 6 0 1_000_000_000_001 ∷ e 1 24 100 ∷ []
+    e 1 21 0 ∷ e 1 31 5 ∷ e 1 21 20 ∷ e 3 1 30 ∷ e 1 24 10 ∷ e 6 0 40 ∷ e 2 21 60 ∷ e 6 0 1_000_000_000_001 ∷ e 1 24 100 ∷ []
 
 -- the same without the refused events and with another tick
 calm : List Event
-calm = e 1 21 0 ∷ e 3 1 30 ∷ e 2 21 60 ∷ e 6 0 99 ∷ e 1 24 100 ∷ []
+calm = e 1 21 0 ∷ e 1 21 20 ∷ e 3 1 30 ∷ e 2 21 60 ∷ e 6 0 99 ∷ e 1 24 100 ∷ []
 
 usual-in-range : in-range usual ≡ true
 unfolding in-range
@@ -56,7 +58,7 @@ record Computed : Type 0 where
   marked-screen : screen with-solo marked ≡ code "か" ∷ code "が" ∷ []
 
 computed : Computed
-unfolding e busy calm marked step judge input well-formed in-range one-event settle mark same-thumb same-key second-character-takes-thumb second-thumb-takes-character short-overlap sent character code-point table up A B FJ FL D X W
+unfolding e busy calm marked step judge is-new input well-formed is-held hold release how-many held-formed onesIn in-range one-event settle mark same-thumb same-key second-character-takes-thumb second-thumb-takes-character short-overlap sent character code-point table up A B FJ FL D X W
 computed =
     record {
       busy-presses = refl;
@@ -70,33 +72,33 @@ computed =
 
 -- Sentence 1: one press is answered, and one waits.
 tried-1 : characters (items usual busy) ≡ key 21 ∷ []
-unfolding e busy calm marked step judge input well-formed in-range one-event settle mark same-thumb same-key second-character-takes-thumb second-thumb-takes-character short-overlap sent character code-point table up A B FJ FL D X W
+unfolding e busy calm marked step judge is-new input well-formed is-held hold release how-many held-formed onesIn in-range one-event settle mark same-thumb same-key second-character-takes-thumb second-thumb-takes-character short-overlap sent character code-point table up A B FJ FL D X W
 tried-1 = refl
 
 one-answered : demand-3 usual usual-in-range busy .keys-in-order .answered ++ (press (key 24) (at 100) ∷ []) ≡ presses usual busy
-unfolding e busy calm marked step judge input well-formed in-range one-event settle mark same-thumb same-key second-character-takes-thumb second-thumb-takes-character short-overlap sent character code-point table up A B FJ FL D X W
+unfolding e busy calm marked step judge is-new input well-formed is-held hold release how-many held-formed onesIn in-range one-event settle mark same-thumb same-key second-character-takes-thumb second-thumb-takes-character short-overlap sent character code-point table up A B FJ FL D X W
 one-answered = sym (demand-3 usual usual-in-range busy .keys-in-order .presses-are)
 
 -- Sentence 2: 24@100 is committed by an event at 100 + W, and W is 200.
 tried-2 : 1 < length (characters (items usual (with-event busy (e 6 0 300))))
-unfolding e busy calm marked step judge input well-formed in-range one-event settle mark same-thumb same-key second-character-takes-thumb second-thumb-takes-character short-overlap sent character code-point table up A B FJ FL D X W
+unfolding e busy calm marked step judge is-new input well-formed is-held hold release how-many held-formed onesIn in-range one-event settle mark same-thumb same-key second-character-takes-thumb second-thumb-takes-character short-overlap sent character code-point table up A B FJ FL D X W
 tried-2 =
     demand-3 usual usual-in-range (with-event busy (e 6 0 300)) .committed-within-W busy [] (e 6 0 300) refl refl
     (press (key 21) (at 0) ∷ []) [] (press (key 24) (at 100)) refl (lit≤ tt)
 
 -- Sentence 3: the two sequences differ in ticks and refused events only.
 tried-3 : SameText usual busy calm (at 300)
-unfolding e busy calm marked step judge input well-formed in-range one-event settle mark same-thumb same-key second-character-takes-thumb second-thumb-takes-character short-overlap sent character code-point table up A B FJ FL D X W
+unfolding e busy calm marked step judge is-new input well-formed is-held hold release how-many held-formed onesIn in-range one-event settle mark same-thumb same-key second-character-takes-thumb second-thumb-takes-character short-overlap sent character code-point table up A B FJ FL D X W
 tried-3 = demand-3 usual usual-in-range busy .ticks-do-not-matter calm (at 300) refl refl refl
 
 -- Sentence 4: a line and a waiting character, neither of them empty.
 tried-4 : screen usual busy ≡ line usual busy ++ (code "さ" ∷ [])
-unfolding e busy calm marked step judge input well-formed in-range one-event settle mark same-thumb same-key second-character-takes-thumb second-thumb-takes-character short-overlap sent character code-point table up A B FJ FL D X W
+unfolding e busy calm marked step judge is-new input well-formed is-held hold release how-many held-formed onesIn in-range one-event settle mark same-thumb same-key second-character-takes-thumb second-thumb-takes-character short-overlap sent character code-point table up A B FJ FL D X W
 tried-4 = demand-3 usual usual-in-range busy .screen-is-line
 
 -- Sentence 5: the tick at 100 sends a backspace, a mark and か, behind a line that is not empty.
 tried-5 : TakesNothing with-solo marked []
-unfolding e busy calm marked step judge input well-formed in-range one-event settle mark same-thumb same-key second-character-takes-thumb second-thumb-takes-character short-overlap sent character code-point table up A B FJ FL D X W
+unfolding e busy calm marked step judge is-new input well-formed is-held hold release how-many held-formed onesIn in-range one-event settle mark same-thumb same-key second-character-takes-thumb second-thumb-takes-character short-overlap sent character code-point table up A B FJ FL D X W
 tried-5 =
     demand-3 with-solo solo-in-range (with-event marked (e 6 0 100)) .no-backspace-takes-committed marked [] (e 6 0 100) refl []
     (sign 2 ∷ sign (code "か") ∷ []) refl

@@ -5,9 +5,10 @@ use mathlib.Core.Logic.{_≢_}
 use mathlib.Core.Option.{Option, none, some}
 use mathlib.Core.Path.{_≡_}
 use lib.IntN.{ℤ, pos, negsuc, _-ℤ_}
+use Rattle.rules.specs.Choice.{if_then_else_}
 use Rattle.rules.specs.Numbers.{largest-stamp}
-use Rattle.rules.specs.States.{later}
-use Rattle.rules.specs.OneEvent.{late}
+use Rattle.rules.specs.States.{later, deadline}
+use Rattle.rules.specs.OneEvent.{late, due-by}
 use Rattle.rules.specs.GivenBack.{Answer, acceptance, step}
 use Rattle.rules.specs.Demand3.{tick}
 use Rattle.rules.specs.Distance.{asking}
@@ -38,12 +39,20 @@ only-last m t =
       number = 0;
       items = [];
       sendings = [];
-      machine = record { settings = m .settings; resting = m .resting; last = t };
+      machine = record { settings = m .settings; resting = m .resting; last = t; held = m .held };
     }
 
 -- an accepted event that does the line "late", and nothing else
 abbrev pub late-line : Machine → Stamp → Answer
-late-line m t = acceptance m t (late (m .settings) (m .resting))
+late-line m t = acceptance m t (m .held) (late (m .settings) (m .resting))
+
+-- an accepted event that does the line "late" if it is due, changes the last stamp, and nothing else
+abbrev pub only-time-passes : Machine → Stamp → Answer
+only-time-passes m t = if due-by t (deadline (m .settings) (m .resting)) then late-line m t else only-last m t
+
+-- of every machine and stamp
+abbrev pub TickIsTime : Machine → Stamp → Type 0
+TickIsTime m t = step m (tick t) .number ≡ 0 → step m (tick t) ≡ only-time-passes m t
 
 -- Of every machine m and stamp now at which it answers. A tick is accepted if its number is 0.
 pub record DistanceFacts (m : Machine) (now : Stamp) : Type 0 where

@@ -52,6 +52,8 @@ pub data Line : Type 0 where
   rests : Resting → Line
   -- what the last event sent
   sent : List Sending → Line
+  -- the number that the last event gave back
+  answered : ℕ → Line
   -- how far the deadline lies, asked at a stamp
   asked : ℕ → Asking → Line
 
@@ -146,6 +148,19 @@ slow-hands =
     (down 21 0 ∷ thumb Right 500 ∷ up 21 899 ∷ text (か ∷ []) ∷ rests (S3 Right (at 500)) ∷ []) ∷
     example "an overlap of 400" slow (down 21 0 ∷ thumb Right 500 ∷ up 21 900 ∷ text (が ∷ []) ∷ rests S1 ∷ []) ∷ []
 
+-- 7/12: a repeat and an up of a key not held act as a tick, a function key does not clear the set, a seventh key is refused.
+abbrev pub held-down : List Example
+held-down =
+    example "a repeat" usual
+    (down 21 0 ∷ down 21 99 ∷ answered 0 ∷ nothing ∷ rests (S2 (key 21) (at 0)) ∷ down 21 100 ∷ text (か ∷ []) ∷ rests S1 ∷
+    up 21 150 ∷ down 21 160 ∷ rests (S2 (key 21) (at 160)) ∷ []) ∷
+    example "an up that comes alone" usual (up 21 0 ∷ answered 0 ∷ down 21 10 ∷ up 24 20 ∷ nothing ∷ rests (S2 (key 21) (at 10)) ∷ []) ∷
+    example "a function key" usual (down 21 0 ∷ arrives 5 0 10 ∷ text (か ∷ []) ∷ down 21 20 ∷ rests S1 ∷ []) ∷
+    example "a seventh key" usual
+    (down 0 0 ∷ down 1 0 ∷ down 2 0 ∷ down 3 0 ∷ down 4 0 ∷ down 30 0 ∷ answered 0 ∷ down 21 0 ∷ answered 11 ∷
+    rests (S2 (key 30) (at 0)) ∷ down 31 0 ∷ answered 3 ∷ down 21 (largest-stamp + 1) ∷ answered 4 ∷ down 4 5 ∷ answered 0 ∷
+    down 21 4 ∷ answered 5 ∷ up 4 5 ∷ down 21 5 ∷ answered 0 ∷ rests (S2 (key 21) (at 5)) ∷ []) ∷ []
+
 -- The answers to one that asks. A machine whose settings are out of range is not well formed.
 abbrev pub to-wait : ℕ → Asking
 to-wait n = record { number = 0; distance = some (pos n) }
@@ -179,17 +194,19 @@ distances =
     example "refused as a state" (settings-of 49 50 50 0) (asked 0 (refused 2) ∷ asked (largest-stamp + 1) (refused 2) ∷ []) ∷ []
 
 -- The lines as the rules have them: each thing that 01 says is replaced by what there is. es are the events so far, from a
--- fresh state; q is what the last of them sent.
-abbrev pub observed-lines : Settings → List Event → List Sending → List Line → List Line
-observed-lines s es q [] = []
-observed-lines s es q (event e ∷ ls) = event e ∷ observed-lines s (es ++ (e ∷ [])) (step (state s es) e .sendings) ls
-observed-lines s es q (text said ∷ ls) = text (items s es) ∷ observed-lines s es q ls
-observed-lines s es q (rests said ∷ ls) = rests (state s es .resting) ∷ observed-lines s es q ls
-observed-lines s es q (sent said ∷ ls) = sent q ∷ observed-lines s es q ls
-observed-lines s es q (asked n said ∷ ls) = asked n (asking (state s es) (at n)) ∷ observed-lines s es q ls
+-- fresh state; n is the number that the last of them gave back, q what it sent.
+abbrev pub observed-lines : Settings → List Event → ℕ → List Sending → List Line → List Line
+observed-lines s es n q [] = []
+observed-lines s es n q (event e ∷ ls) =
+    event e ∷ observed-lines s (es ++ (e ∷ [])) (step (state s es) e .number) (step (state s es) e .sendings) ls
+observed-lines s es n q (text said ∷ ls) = text (items s es) ∷ observed-lines s es n q ls
+observed-lines s es n q (rests said ∷ ls) = rests (state s es .resting) ∷ observed-lines s es n q ls
+observed-lines s es n q (sent said ∷ ls) = sent q ∷ observed-lines s es n q ls
+observed-lines s es n q (answered said ∷ ls) = answered n ∷ observed-lines s es n q ls
+observed-lines s es n q (asked t said ∷ ls) = asked t (asking (state s es) (at t)) ∷ observed-lines s es n q ls
 
 abbrev pub observed : Example → Example
-observed x = example (x .name) (x .settings) (observed-lines (x .settings) [] [] (x .lines))
+observed x = example (x .name) (x .settings) (observed-lines (x .settings) [] 0 [] (x .lines))
 
 -- The examples hold: what the rules give is what the table says.
 abbrev pub ExamplesHold : Type 0
@@ -200,6 +217,9 @@ SlipsHold = map observed slips ≡ slips
 
 abbrev pub SlowHandsHold : Type 0
 SlowHandsHold = map observed slow-hands ≡ slow-hands
+
+abbrev pub HeldDownHold : Type 0
+HeldDownHold = map observed held-down ≡ held-down
 
 abbrev pub DistancesHold : Type 0
 DistancesHold = map observed distances ≡ distances

@@ -1,11 +1,13 @@
 -- Document 01, "Numbers given back", for events: which events are refused, in which order, and one step as a whole. The
 -- kinds and keys of events are those of section "Log".
 use Prim.Native.Nat.{ℕ}
+use mathlib.Core.Bool.{Bool, not, _&&_}
 use mathlib.Core.List.{List, [], _++_}
 use mathlib.Core.Option.{Option, none, some}
 use lib.Dec.{ltb, eqb}
 use Rattle.rules.specs.Choice.{if_then_else_}
-use Rattle.rules.specs.Numbers.{largest-stamp}
+use Rattle.rules.specs.Numbers.{largest-stamp, most-held}
+use Rattle.rules.specs.Held.{is-held, hold, release, how-many}
 use Rattle.rules.specs.States.{is-key, well-formed}
 use Rattle.rules.specs.OneEvent.{Done, one-event}
 use Rattle.rules.specs.ZeroDelay.{signs, shown, Sending, sent}
@@ -44,25 +46,56 @@ input kind k =
     if eqb kind 5 then with-0 FunctionDown k else
     if eqb kind 6 then with-0 Tick k else none
 
--- An event is refused with a number, or accepted as an input.
+-- What an input acts as, with the keys of the set h held (7/12): a down of a key that is held, and an up of one that is not, act
+-- as a tick.
+abbrev pub acts-as : ℕ → Input → Input
+acts-as h (CharacterDown k) = if is-held h k then Tick else CharacterDown k
+acts-as h (CharacterUp k) = if is-held h k then CharacterUp k else Tick
+acts-as h (ThumbDown P) = ThumbDown P
+acts-as h (ThumbUp P) = ThumbUp P
+acts-as h FunctionDown = FunctionDown
+acts-as h Tick = Tick
+
+-- the held set after an input that acts
+abbrev pub held-after : ℕ → Input → ℕ
+held-after h (CharacterDown k) = hold h k
+held-after h (CharacterUp k) = release h k
+held-after h (ThumbDown P) = h
+held-after h (ThumbUp P) = h
+held-after h FunctionDown = h
+held-after h Tick = h
+
+-- An event is refused with a number, or accepted as an input that acts.
 pub data Verdict : Type 0 where
   refused : ℕ → Verdict
   accepted : Input → Verdict
 
--- 4, stamp above the largest; then 5, stamp before the last accepted
-abbrev pub judge-stamp : Stamp → Stamp → Input → Verdict
-judge-stamp last now i =
-    if ltb largest-stamp (now .0) then refused 4 else
-    if ltb (now .0) (last .0) then refused 5 else accepted i
+-- A press of a new key: a down of a key not held.
+unfoldable pub is-new : Machine → Event → Bool
+is-new m e = eqb (e .kind) 1 && not (is-held (m .held) (e .key))
+
+-- a press of a new key while 6 are held
+abbrev pub too-many : Machine → Event → Bool
+too-many m e = is-new m e && eqb (how-many (m .held)) most-held
+
+-- 11 for that; else the event is accepted
+abbrev pub judge-room : Machine → Event → Input → Verdict
+judge-room m e i = if too-many m e then refused 11 else accepted (acts-as (m .held) i)
+
+-- 4, stamp above the largest; then 5, stamp before the last accepted; then 11
+abbrev pub judge-stamp : Machine → Event → Input → Verdict
+judge-stamp m e i =
+    if ltb largest-stamp (e .stamp .0) then refused 4 else
+    if ltb (e .stamp .0) (m .last .0) then refused 5 else judge-room m e i
 
 -- 3, kind or key not allowed; then the stamp
-abbrev pub judge-input : Stamp → Stamp → Option Input → Verdict
-judge-input last now none = refused 3
-judge-input last now (some i) = judge-stamp last now i
+abbrev pub judge-input : Machine → Event → Option Input → Verdict
+judge-input m e none = refused 3
+judge-input m e (some i) = judge-stamp m e i
 
--- the order on an event: 2, state not well formed; then 3, 4, 5
+-- the order on an event: 2, state not well formed; then 3, 4, 5, 11
 unfoldable pub judge : Machine → Event → Verdict
-judge m e = if well-formed m then judge-input (m .last) (e .stamp) (input (e .kind) (e .key)) else refused 2
+judge m e = if well-formed m then judge-input m e (input (e .kind) (e .key)) else refused 2
 
 -- What an event gives back: the number, the items committed, what is sent, and the state.
 pub record Answer : Type 0 where
@@ -75,19 +108,19 @@ pub record Answer : Type 0 where
 abbrev pub refusal : Machine → ℕ → Answer
 refusal m n = record { number = n; items = []; sendings = []; machine = m }
 
--- an accepted event: what one-event commits and leaves, what zero delay sends, and the new last stamp
-abbrev pub acceptance : Machine → Stamp → Done → Answer
-acceptance m now d =
+-- an accepted event: what one-event commits and leaves, what zero delay sends, the new last stamp and the new held set
+abbrev pub acceptance : Machine → Stamp → ℕ → Done → Answer
+acceptance m now h d =
     record {
       number = 0;
       items = d .items;
       sendings = sent (shown (m .resting)) (signs (d .items) ++ shown (d .resting));
-      machine = record { settings = m .settings; resting = d .resting; last = now };
+      machine = record { settings = m .settings; resting = d .resting; last = now; held = h };
     }
 
 abbrev pub answer : Machine → Stamp → Verdict → Answer
 answer m now (refused n) = refusal m n
-answer m now (accepted i) = acceptance m now (one-event (m .settings) now (m .resting) i)
+answer m now (accepted i) = acceptance m now (held-after (m .held) i) (one-event (m .settings) now (m .resting) i)
 
 -- one step as a whole
 unfoldable pub step : Machine → Event → Answer

@@ -2,6 +2,8 @@ pub mod Choice
 pub mod Numbers
 pub mod Layout
 pub mod LayoutFacts
+pub mod Held
+pub mod HeldFacts
 pub mod States
 pub mod OneEvent
 pub mod ZeroDelay
@@ -9,6 +11,7 @@ pub mod GivenBack
 pub mod Refusals
 pub mod Sequences
 pub mod Demand3
+pub mod HeldRules
 pub mod StepFacts
 pub mod SequenceFacts
 pub mod Distance

@@ -12,6 +12,10 @@ short-overlap-time = 400
 abbrev pub keys : ℕ
 keys = 31
 
+-- how many of them may be held at once (7/12 of document 02)
+abbrev pub most-held : ℕ
+most-held = 6
+
 abbrev pub largest-stamp : ℕ
 largest-stamp = 1_000_000_000_000
 

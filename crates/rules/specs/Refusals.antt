@@ -1,14 +1,15 @@
 -- Document 01, "Numbers given back": a number is given exactly when its row holds and no earlier check fired. The order on an
--- event is 2, 3, 4, 5. The proof is proofs/Refusals.antt.
+-- event is 2, 3, 4, 5, 11. The proof is proofs/Refusals.antt.
 use Prim.Native.Nat.{_<_}
-use mathlib.Core.Bool.{false}
+use mathlib.Core.Bool.{true, false}
 use mathlib.Core.List.{[]}
 use mathlib.Core.Logic.{_↔_, _≢_}
 use mathlib.Core.Option.{none}
 use mathlib.Core.Path.{_≡_}
-use Rattle.rules.specs.Numbers.{largest-stamp}
+use Rattle.rules.specs.Numbers.{largest-stamp, most-held}
+use Rattle.rules.specs.Held.{how-many}
 use Rattle.rules.specs.States.{well-formed}
-use Rattle.rules.specs.GivenBack.{Answer, input, step}
+use Rattle.rules.specs.GivenBack.{Answer, input, is-new, step}
 use Rattle.rules.specs.declared.Machine.{Machine}
 use Rattle.rules.specs.declared.Event.{Event}
 
@@ -28,6 +29,10 @@ AboveLargest e = largest-stamp < e .stamp .0
 abbrev pub BeforeLast : Machine → Event → Type 0
 BeforeLast m e = e .stamp .0 < m .last .0
 
+-- 11: a press of a new key while 6 are held (7/12)
+abbrev pub TooMany : Machine → Event → Type 0
+TooMany m e = (is-new m e ≡ true) × (how-many (m .held) ≡ most-held)
+
 -- state handed back as given, nothing committed, nothing sent
 pub record LeftAsGiven (m : Machine) (r : Answer) : Type 0 where
   pub no-items : r .items ≡ []
@@ -40,5 +45,8 @@ pub record Refusals (m : Machine) (e : Event) : Type 0 where
   pub gives-3 : step m e .number ≡ 3 ↔ ((¬ NotWellFormed m) × NotAllowed e)
   pub gives-4 : step m e .number ≡ 4 ↔ ((¬ NotWellFormed m) × (¬ NotAllowed e) × AboveLargest e)
   pub gives-5 : step m e .number ≡ 5 ↔ ((¬ NotWellFormed m) × (¬ NotAllowed e) × (¬ AboveLargest e) × BeforeLast m e)
-  pub gives-0 : step m e .number ≡ 0 ↔ ((¬ NotWellFormed m) × (¬ NotAllowed e) × (¬ AboveLargest e) × (¬ BeforeLast m e))
+  pub gives-11 : step m e .number ≡ 11
+      ↔ ((¬ NotWellFormed m) × (¬ NotAllowed e) × (¬ AboveLargest e) × (¬ BeforeLast m e) × TooMany m e)
+  pub gives-0 : step m e .number ≡ 0
+      ↔ ((¬ NotWellFormed m) × (¬ NotAllowed e) × (¬ AboveLargest e) × (¬ BeforeLast m e) × (¬ TooMany m e))
   pub refused : step m e .number ≢ 0 → LeftAsGiven m (step m e)

@@ -9,7 +9,7 @@ use Rattle.rules.specs.Choice.{if_then_else_}
 use Rattle.rules.specs.Numbers.{within}
 use Rattle.rules.specs.States.{fresh}
 use Rattle.rules.specs.ZeroDelay.{signs, Sending, backspace, sign}
-use Rattle.rules.specs.GivenBack.{Answer, step}
+use Rattle.rules.specs.GivenBack.{is-new, Answer, step}
 use Rattle.rules.specs.declared.Stamp.{Stamp}
 use Rattle.rules.specs.declared.Key.{Key}
 use Rattle.rules.specs.declared.Settings.{Settings}
@@ -25,10 +25,10 @@ abbrev pub after : Machine → List Event → Machine
 after m [] = m
 after m (e ∷ es) = after (step m e .machine) es
 
--- What f reads off each event and its answer, joined along the sequence.
-abbrev pub along : {X : Type 0} → (Event → Answer → List X) → Machine → List Event → List X
+-- What f reads off each event, the state that it got and its answer, joined along the sequence.
+abbrev pub along : {X : Type 0} → (Machine → Event → Answer → List X) → Machine → List Event → List X
 along f m [] = []
-along f m (e ∷ es) = f e (step m e) ++ along f (step m e .machine) es
+along f m (e ∷ es) = f m e (step m e) ++ along f (step m e .machine) es
 
 -- number 0: the event was accepted
 abbrev pub is-accepted : Answer → Bool
@@ -46,23 +46,23 @@ abbrev pub keys-of : List Press → List Key
 keys-of [] = []
 keys-of (p ∷ ps) = p .key ∷ keys-of ps
 
--- a character press is an accepted event of kind 1
-abbrev pub press-in : Event → Answer → List Press
-press-in e r = if is-accepted r && eqb (e .kind) 1 then (press (e .key) (e .stamp) ∷ []) else []
+-- a character press is an accepted down of a key not held (7/12)
+abbrev pub press-in : Machine → Event → Answer → List Press
+press-in m e r = if is-accepted r && is-new m e then (press (e .key) (e .stamp) ∷ []) else []
 
 -- the event itself, if it was accepted
-abbrev pub accepted-in : Event → Answer → List Event
-accepted-in e r = if is-accepted r then (e ∷ []) else []
+abbrev pub accepted-in : Machine → Event → Answer → List Event
+accepted-in m e r = if is-accepted r then (e ∷ []) else []
 
 -- kinds 1 to 5 are key events; whether one is accepted is not a matter of demand 3
-abbrev pub key-event-in : Event → Answer → List Event
-key-event-in e r = if is-accepted r && within 1 5 (e .kind) then (e ∷ []) else []
+abbrev pub key-event-in : Machine → Event → Answer → List Event
+key-event-in m e r = if is-accepted r && within 1 5 (e .kind) then (e ∷ []) else []
 
-abbrev pub items-in : Event → Answer → List Item
-items-in e r = r .items
+abbrev pub items-in : Machine → Event → Answer → List Item
+items-in m e r = r .items
 
-abbrev pub sendings-in : Event → Answer → List Sending
-sendings-in e r = r .sendings
+abbrev pub sendings-in : Machine → Event → Answer → List Sending
+sendings-in m e r = r .sendings
 
 -- the keys of the committed characters, an empty face too
 abbrev pub characters : List Item → List Key

@@ -6,6 +6,7 @@ use mathlib.Core.Option.{Option, none, some}
 use lib.Dec.{ltb, leb, eqb}
 use Rattle.rules.specs.Choice.{if_then_else_}
 use Rattle.rules.specs.Numbers.{keys, largest-stamp, in-range, A, B, FJ, FL}
+use Rattle.rules.specs.Held.{held-formed}
 use Rattle.rules.specs.declared.Stamp.{Stamp}
 use Rattle.rules.specs.declared.Key.{Key}
 use Rattle.rules.specs.declared.Settings.{Settings}
@@ -36,9 +37,9 @@ deadline s (S4 M m O o) = some (later o (FJ s (lag m o)))
 deadline s (S5 O o M m) = some (later m (FL s (min (lag o m) (B s))))
 deadline s (S6 O o M m r) = some (later r (lag m r))
 
--- a fresh state
+-- a fresh state: no key is held
 abbrev pub fresh : Settings → Machine
-fresh s = record { settings = s; resting = S1; last = at 0 }
+fresh s = record { settings = s; resting = S1; last = at 0; held = 0 }
 
 -- keys below 31
 abbrev pub is-key : Key → Bool
@@ -80,6 +81,7 @@ well-formed x =
     && stamps-by (x .last) (x .resting)
     && at-or-before (x .last) (at largest-stamp)
     && in-order (x .resting)
+    && held-formed (x .held)
 
 -- Opening a machine: the number given back, and the machine if there is one.
 pub record Opening : Type 0 where

@@ -6,6 +6,7 @@ ghost use Rattle.rules.specs.States.{opening, opened};
 
 // A moment of the keyboard's clock, in milliseconds. There is no type for another clock: a number from elsewhere can enter
 // only through this one.
+#[repr(C)]
 pub struct Stamp(pub u64);
 
 // The milliseconds from one stamp to a later one.
@@ -42,11 +43,12 @@ pub enum Resting {
     S6(Thumb, Stamp, Key, Stamp, Stamp),
 }
 
-// One keyboard: its settings, what rests, and the last accepted stamp.
+// One keyboard: its settings, what rests, the last accepted stamp, and the set of held character keys, one bit a key.
 pub struct Machine {
     pub settings: Settings,
     pub resting: Resting,
     pub last: Stamp,
+    pub held: u32,
 }
 
 // The plain face of a key, or its face with a thumb.
@@ -125,10 +127,12 @@ impl Settings {
 impl Machine {
     // The number of character keys: theirs are the numbers below it.
     pub const KEYS: Key = Key(31);
+    // So many keys may be held at once.
+    pub const MOST_HELD: u32 = 6;
     // The largest stamp that is accepted.
     pub const LARGEST: Stamp = Stamp(1_000_000_000_000);
 
-    // A fresh machine: nothing rests, and the last stamp counts as 0.
+    // A fresh machine: nothing rests, the last stamp counts as 0, and no key is held.
     pub fn open(settings: Settings) -> Opened
         ensures { λ r. ⌜ opened r ≡ opening settings ⌝ }
     {
@@ -137,6 +141,7 @@ impl Machine {
                 settings: settings,
                 resting: Resting::S1,
                 last: Stamp(0),
+                held: 0,
             });
         }
         Opened::OutOfRange

@@ -1,0 +1,59 @@
+-- What 7/12 of document 02 says of a step and of a sequence, besides the rules. The proofs are in proofs/HeldRules.antt.
+use Prim.Native.Nat.{ℕ, _≤_, _<_}
+use mathlib.Core.Bool.{Bool, true, false, _&&_}
+use mathlib.Core.List.{List, [], _∷_}
+use mathlib.Core.Path.{_≡_}
+use lib.Dec.{eqb}
+use Rattle.rules.specs.Choice.{if_then_else_}
+use Rattle.rules.specs.Numbers.{keys, most-held, in-range}
+use Rattle.rules.specs.Held.{is-held, how-many}
+use Rattle.rules.specs.OneEvent.{same-key}
+use Rattle.rules.specs.GivenBack.{step}
+use Rattle.rules.specs.Sequences.{Press, waiting, state}
+use Rattle.rules.specs.Demand3.{tick}
+use Rattle.rules.specs.DistanceFacts.{only-time-passes}
+use Rattle.rules.specs.declared.Stamp.{Stamp}
+use Rattle.rules.specs.declared.Key.{Key}
+use Rattle.rules.specs.declared.Settings.{Settings}
+use Rattle.rules.specs.declared.Machine.{Machine}
+use Rattle.rules.specs.declared.Event.{Event}
+
+abbrev pub down : Key → Stamp → Event
+down k t = record { kind = 1; key = k; stamp = t }
+
+abbrev pub up : Key → Stamp → Event
+up k t = record { kind = 2; key = k; stamp = t }
+
+-- Of every machine, key and stamp: a repeat, and an up of a key that is not held, give what a tick gives, refusals too. So an
+-- accepted one changes nothing but the last stamp and what is late.
+pub record ActsAsTick (m : Machine) (k : Key) (t : Stamp) : Type 0 where
+  pub repeat : is-held (m .held) k ≡ true → step m (down k t) ≡ step m (tick t)
+  pub stray-up : k .0 < keys → is-held (m .held) k ≡ false → step m (up k t) ≡ step m (tick t)
+  pub repeat-changes : is-held (m .held) k ≡ true → step m (down k t) .number ≡ 0 → step m (down k t) ≡ only-time-passes m t
+  pub stray-up-changes : k .0 < keys → is-held (m .held) k ≡ false → step m (up k t) .number ≡ 0 → step m (up k t) ≡ only-time-passes m t
+
+-- Whether key k is held after an accepted event, by its kind and key: a down holds its key, an up releases it, and every other
+-- key stays as it was before.
+abbrev pub held-then : ℕ → Key → Key → Bool → Bool
+held-then kind N k before =
+    if eqb kind 1 && same-key k N then true else
+    if eqb kind 2 && same-key k N then false else before
+
+-- of every machine and event
+abbrev pub HeldAfterwards : Machine → Event → Type 0
+HeldAfterwards m e =
+    step m e .number ≡ 0
+    → (k : Key) → is-held (step m e .machine .held) k ≡ held-then (e .kind) (e .key) k (is-held (m .held) k)
+
+-- the keys of these presses are held
+abbrev pub AllHeld : ℕ → List Press → Type 0
+AllHeld h [] = Unit {0}
+AllHeld h (p ∷ ps) = (is-held h (p .key) ≡ true) × AllHeld h ps
+
+-- Of every sequence of events from a fresh state: at most 6 keys are held, and a waiting key is held.
+pub record HeldInSequence (s : Settings) (es : List Event) : Type 0 where
+  pub at-most-6 : how-many (state s es .held) ≤ most-held
+  pub waiting-is-held : AllHeld (state s es .held) (waiting (state s es .resting))
+
+abbrev pub HeldInSequences : Type 0
+HeldInSequences = (s : Settings) → in-range s ≡ true → (es : List Event) → HeldInSequence s es
