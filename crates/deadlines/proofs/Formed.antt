@@ -11,6 +11,7 @@ use lib.IntN.{ℤ}
 use borrow.Author.Tests.{leb-true, ltb-false}
 use Rattle.rules.specs.Choice.{if_then_else_}
 use Rattle.rules.specs.Numbers.{largest-stamp, in-range, A, B, FJ, FL}
+use Rattle.rules.specs.Held.{held-formed}
 use Rattle.rules.specs.States.{at, lag, at-or-before, later, deadline, keys-below, stamps-by, in-order, well-formed}
 use Rattle.rules.specs.Distance.{distance-to, Asking, not-answered, at-stamp, asking}
 use Rattle.rules.specs.declared.Stamp.{Stamp}
@@ -81,7 +82,9 @@ well-formed-fits x e =
     let K = keys-below (x .resting) in
     let S = stamps-by (x .last) (x .resting) in
     let L = at-or-before (x .last) (at largest-stamp) in
-    let rksl = and-eq-true-iff (R && K && S && L) (in-order (x .resting)) .0 e in
+    let O = in-order (x .resting) in
+    let rkslo = and-eq-true-iff (R && K && S && L && O) (held-formed (x .held)) .0 e in
+    let rksl = and-eq-true-iff (R && K && S && L) O .0 (rkslo .0) in
     let rks = and-eq-true-iff (R && K && S) L .0 (rksl .0) in
     let rk = and-eq-true-iff (R && K) S .0 (rks .0) in
     by-state (x .settings)

@@ -1,5 +1,6 @@
 // Whether a resting state is due, how far its deadline lies from a stamp, and whether a machine is well formed. key is M, a
 // character key pressed at m, thumb is O, a thumb pressed at o, r is the thumb's release.
+use held::held_formed;
 use rules::Machine;
 use rules::Resting;
 use rules::Settings;
@@ -118,6 +119,7 @@ pub fn well_formed(machine: Machine) -> bool
     let s = machine.settings;
     let resting = machine.resting;
     let last = machine.last;
+    let held = machine.held;
     if !s.in_range() {
         return false;
     }
@@ -130,7 +132,10 @@ pub fn well_formed(machine: Machine) -> bool
     if !at_or_before(last, Machine::LARGEST) {
         return false;
     }
-    in_order(resting)
+    if !in_order(resting) {
+        return false;
+    }
+    held_formed(held)
 }
 
 // Whether each state is due at a stamp. It is decided by products, since it is asked at every event: a wait is worked out only of a
