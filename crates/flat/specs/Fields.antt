@@ -1,12 +1,13 @@
 -- The numbers of a machine (`flat`), and the machine that numbers name (`named`). M is a character key pressed at m, O a thumb
 -- pressed at o, r the thumb's release. Any key, stamps and settings are allowed here: whether a machine is well formed is asked of
 -- the machine.
-use Prim.Native.Nat.{ℕ}
+use Prim.Native.Nat.{ℕ, _^_}
 use mathlib.Core.Bool.{Bool, _&&_}
 use mathlib.Core.Option.{Option, none, some}
-use lib.Dec.{eqb}
+use lib.Dec.{ltb, eqb}
 use Rattle.rules.specs.Choice.{if_then_else_}
 use Rattle.rules.specs.States.{at}
+use Rattle.rules.specs.declared.Stamp.{Stamp}
 use Rattle.rules.specs.declared.Key.{Key}
 use Rattle.rules.specs.declared.Thumb.{Thumb}
 use Rattle.rules.specs.declared.Thumb.the-variants.{Left, Right}
@@ -25,28 +26,29 @@ thumb-number Right = 1
 pub record Rest : Type 0 where
   pub state : ℕ
   pub key : ℕ
-  pub m : ℕ
+  pub m : Stamp
   pub thumb : ℕ
-  pub o : ℕ
-  pub r : ℕ
+  pub o : Stamp
+  pub r : Stamp
 
 -- a number that a state does not use is 0
 abbrev pub rest : Resting → Rest
-rest S1 = record { state = 1; key = 0; m = 0; thumb = 0; o = 0; r = 0 }
-rest (S2 M m) = record { state = 2; key = M .0; m = m .0; thumb = 0; o = 0; r = 0 }
-rest (S3 O o) = record { state = 3; key = 0; m = 0; thumb = thumb-number O; o = o .0; r = 0 }
-rest (S4 M m O o) = record { state = 4; key = M .0; m = m .0; thumb = thumb-number O; o = o .0; r = 0 }
-rest (S5 O o M m) = record { state = 5; key = M .0; m = m .0; thumb = thumb-number O; o = o .0; r = 0 }
-rest (S6 O o M m r) = record { state = 6; key = M .0; m = m .0; thumb = thumb-number O; o = o .0; r = r .0 }
+rest S1 = record { state = 1; key = 0; m = at 0; thumb = 0; o = at 0; r = at 0 }
+rest (S2 M m) = record { state = 2; key = M .0; m = m; thumb = 0; o = at 0; r = at 0 }
+rest (S3 O o) = record { state = 3; key = 0; m = at 0; thumb = thumb-number O; o = o; r = at 0 }
+rest (S4 M m O o) = record { state = 4; key = M .0; m = m; thumb = thumb-number O; o = o; r = at 0 }
+rest (S5 O o M m) = record { state = 5; key = M .0; m = m; thumb = thumb-number O; o = o; r = at 0 }
+rest (S6 O o M m r) = record { state = 6; key = M .0; m = m; thumb = thumb-number O; o = o; r = r }
 
--- these beside the settings and the last accepted stamp
+-- these beside the settings, the last accepted stamp and the held keys
 abbrev pub joined : Machine → Rest → Flat
 joined x n =
     record {
-      last = x .last .0;
+      last = x .last;
       m = n .m;
       o = n .o;
       r = n .r;
+      held = x .held;
       t = x .settings .t;
       j = x .settings .j;
       l = x .settings .l;
@@ -62,15 +64,15 @@ flat x = joined x (rest (x .resting))
 
 -- M and m are 0
 unfoldable pub no-character : Flat → Bool
-no-character f = eqb (f .key) 0 && eqb (f .m) 0
+no-character f = eqb (f .key) 0 && eqb (f .m .0) 0
 
 -- O and o are 0
 unfoldable pub no-thumb : Flat → Bool
-no-thumb f = eqb (f .thumb) 0 && eqb (f .o) 0
+no-thumb f = eqb (f .thumb) 0 && eqb (f .o .0) 0
 
 -- r is 0
 unfoldable pub no-release : Flat → Bool
-no-release f = eqb (f .r) 0
+no-release f = eqb (f .r .0) 0
 
 -- M
 abbrev pub character : Flat → Key
@@ -87,19 +89,19 @@ unfoldable pub as-S1 : Flat → Option Resting
 as-S1 f = if no-character f && no-thumb f && no-release f then some S1 else none
 
 unfoldable pub as-S2 : Flat → Option Resting
-as-S2 f = if no-thumb f && no-release f then some (S2 (character f) (at (f .m))) else none
+as-S2 f = if no-thumb f && no-release f then some (S2 (character f) (f .m)) else none
 
 unfoldable pub as-S3 : Flat → Option Resting
-as-S3 f = if no-character f && no-release f then with-thumb f (λ O. S3 O (at (f .o))) else none
+as-S3 f = if no-character f && no-release f then with-thumb f (λ O. S3 O (f .o)) else none
 
 unfoldable pub as-S4 : Flat → Option Resting
-as-S4 f = if no-release f then with-thumb f (λ O. S4 (character f) (at (f .m)) O (at (f .o))) else none
+as-S4 f = if no-release f then with-thumb f (λ O. S4 (character f) (f .m) O (f .o)) else none
 
 unfoldable pub as-S5 : Flat → Option Resting
-as-S5 f = if no-release f then with-thumb f (λ O. S5 O (at (f .o)) (character f) (at (f .m))) else none
+as-S5 f = if no-release f then with-thumb f (λ O. S5 O (f .o) (character f) (f .m)) else none
 
 unfoldable pub as-S6 : Flat → Option Resting
-as-S6 f = with-thumb f (λ O. S6 O (at (f .o)) (character f) (at (f .m)) (at (f .r)))
+as-S6 f = with-thumb f (λ O. S6 O (f .o) (character f) (f .m) (f .r))
 
 -- a state is 1 to 6
 unfoldable pub resting-named : Flat → Option Resting
@@ -117,26 +119,34 @@ settings-named f = record { t = f .t; j = f .j; l = f .l; solo = f .solo }
 -- the machine in which x rests
 abbrev pub around : Flat → Option Resting → Option Machine
 around f none = none
-around f (some x) = some (record { settings = settings-named f; resting = x; last = at (f .last) })
+around f (some x) = some (record { settings = settings-named f; resting = x; last = f .last; held = f .held })
+
+-- a held set is a number of 32 bits
+abbrev pub bits : ℕ
+bits = 32
 
 -- the machine that numbers name, or none
 unfoldable pub named : Flat → Option Machine
-named f = around f (resting-named f)
+named f = if ltb (f .held) (2 ^ bits) then around f (resting-named f) else none
 
 -- No machine: every number is 0.
 
 -- numbers that name no machine: there is no state 0
 abbrev pub no-machine : Flat
-no-machine = record { last = 0; m = 0; o = 0; r = 0; t = 0; j = 0; l = 0; solo = 0; state = 0; key = 0; thumb = 0 }
+no-machine =
+    record { last = at 0; m = at 0; o = at 0; r = at 0; held = 0; t = 0; j = 0; l = 0; solo = 0; state = 0; key = 0; thumb = 0 }
 
 abbrev pub numbers-of : Option Machine → Flat
 numbers-of none = no-machine
 numbers-of (some x) = flat x
 
--- no state, no settings and no stamp
+-- T, J, L and solo are 0
+unfoldable pub no-settings : Flat → Bool
+no-settings f = eqb (f .t) 0 && eqb (f .j) 0 && eqb (f .l) 0 && eqb (f .solo) 0
+
+-- no state, no last stamp, no held key and no settings
 unfoldable pub unopened : Flat → Bool
-unopened f =
-    eqb (f .state) 0 && eqb (f .last) 0 && eqb (f .t) 0 && eqb (f .j) 0 && eqb (f .l) 0 && eqb (f .solo) 0
+unopened f = eqb (f .state) 0 && eqb (f .last .0) 0 && eqb (f .held) 0 && no-settings f
 
 unfoldable pub is-no-machine : Flat → Bool
 is-no-machine f = unopened f && no-character f && no-thumb f && no-release f

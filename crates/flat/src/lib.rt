@@ -9,21 +9,24 @@ ghost use mathlib.Core.Path.{_≡_};
 ghost use mathlib.Core.Option.{none, some};
 ghost use lib.Dec.{eqb};
 ghost use Rattle.rules.specs.Choice.{if_then_else_};
-ghost use Rattle.flat.specs.Fields.{thumb-number, joined, flat, no-character, no-thumb, no-release, unopened, no-machine, is-no-machine};
-ghost use Rattle.flat.specs.Fields.{as-S1, as-S2, as-S3, as-S4, as-S5, as-S6, resting-named, named};
+ghost use Rattle.flat.specs.Fields.{thumb-number, joined, flat, no-character, no-thumb, no-release, no-machine};
+ghost use Rattle.flat.specs.Fields.{as-S1, as-S2, as-S3, as-S4, as-S5, as-S6, resting-named, named, no-settings, unopened, is-no-machine};
 ghost use Rattle.flat.specs.Views.{found-as, named-as};
 
-// A field that a state does not use is 0.
+// A field that a state does not use is 0. Stamps keep their type, so that a number of another clock is not taken for one in C either.
+// Nothing is left between the fields or behind them, so a struct in C is these numbers and no more.
 #[repr(C)]
 pub struct Flat {
     // The last accepted stamp.
-    pub last: u64,
+    pub last: Stamp,
     // When the character key M was pressed: states 2, 4, 5, 6.
-    pub m: u64,
+    pub m: Stamp,
     // When the thumb O was pressed: states 3 to 6.
-    pub o: u64,
+    pub o: Stamp,
     // When the thumb was released: state 6.
-    pub r: u64,
+    pub r: Stamp,
+    // The held character keys, one bit a key; below BITS.
+    pub held: u64,
     // The settings: T, J, L and solo.
     pub t: u16,
     pub j: u8,
@@ -36,6 +39,12 @@ pub struct Flat {
     // O, 0 left and 1 right: states 3 to 6.
     pub thumb: u8,
 }
+
+// A held set is a number of 32 bits.
+const BITS: u64 = 0x1_0000_0000;
+
+// The stamp that a state does not use.
+const UNUSED: Stamp = Stamp(0);
 
 // The machine that numbers name, if they name one.
 pub enum Named {
@@ -59,16 +68,17 @@ fn thumb_number(thumb: Thumb) -> u8
 }
 
 // The numbers of a machine, given those of what rests.
-fn join(machine: Machine, state: u8, key: u8, m: u64, thumb: u8, o: u64, r: u64) -> Flat
+fn join(machine: Machine, state: u8, key: u8, m: Stamp, thumb: u8, o: Stamp, r: Stamp) -> Flat
     ensures { λ f. ⌜ f ≡ joined machine (record { state = state; key = key; m = m; thumb = thumb; o = o; r = r }) ⌝ }
 {
     let s = machine.settings;
     let last = machine.last;
     Flat {
-        last: last.0,
+        last: last,
         m: m,
         o: o,
         r: r,
+        held: machine.held as u64,
         t: s.t,
         j: s.j,
         l: s.l,
@@ -85,17 +95,17 @@ pub fn flatten(machine: Machine) -> Flat
 {
     let resting = machine.resting;
     match resting {
-        Resting::S1 => join(machine, 1, 0, 0, 0, 0, 0),
-        Resting::S2(key, m) => join(machine, 2, key.0, m.0, 0, 0, 0),
-        Resting::S3(thumb, o) => join(machine, 3, 0, 0, thumb_number(thumb), o.0, 0),
+        Resting::S1 => join(machine, 1, 0, UNUSED, 0, UNUSED, UNUSED),
+        Resting::S2(key, m) => join(machine, 2, key.0, m, 0, UNUSED, UNUSED),
+        Resting::S3(thumb, o) => join(machine, 3, 0, UNUSED, thumb_number(thumb), o, UNUSED),
         Resting::S4(key, m, thumb, o) => {
-            join(machine, 4, key.0, m.0, thumb_number(thumb), o.0, 0)
+            join(machine, 4, key.0, m, thumb_number(thumb), o, UNUSED)
         }
         Resting::S5(thumb, o, key, m) => {
-            join(machine, 5, key.0, m.0, thumb_number(thumb), o.0, 0)
+            join(machine, 5, key.0, m, thumb_number(thumb), o, UNUSED)
         }
         Resting::S6(thumb, o, key, m, r) => {
-            join(machine, 6, key.0, m.0, thumb_number(thumb), o.0, r.0)
+            join(machine, 6, key.0, m, thumb_number(thumb), o, r)
         }
     }
 }
@@ -103,19 +113,19 @@ pub fn flatten(machine: Machine) -> Flat
 fn no_character(numbers: Flat) -> bool
     ensures { λ r. ⌜ r ≡ no-character numbers ⌝ }
 {
-    numbers.key == 0 && numbers.m == 0
+    numbers.key == 0 && numbers.m.0 == 0
 }
 
 fn no_thumb(numbers: Flat) -> bool
     ensures { λ r. ⌜ r ≡ no-thumb numbers ⌝ }
 {
-    numbers.thumb == 0 && numbers.o == 0
+    numbers.thumb == 0 && numbers.o.0 == 0
 }
 
 fn no_release(numbers: Flat) -> bool
     ensures { λ r. ⌜ r ≡ no-release numbers ⌝ }
 {
-    numbers.r == 0
+    numbers.r.0 == 0
 }
 
 // A thumb's number: 0 is the left one, 1 the right one.
@@ -143,7 +153,8 @@ fn as_s2(numbers: Flat) -> Found
     ensures { λ r. ⌜ found-as r ≡ as-S2 numbers ⌝ }
 {
     if no_thumb(numbers) && no_release(numbers) {
-        return Found::Some(Resting::S2(Key(numbers.key), Stamp(numbers.m)));
+        let m = numbers.m;
+        return Found::Some(Resting::S2(Key(numbers.key), m));
     }
     Found::None
 }
@@ -152,7 +163,7 @@ fn as_s3(numbers: Flat) -> Found
     ensures { λ r. ⌜ found-as r ≡ as-S3 numbers ⌝ }
 {
     if no_character(numbers) && no_release(numbers) {
-        let o = Stamp(numbers.o);
+        let o = numbers.o;
         return with_thumb(
             numbers.thumb,
             Resting::S3(Thumb::Left, o),
@@ -167,8 +178,8 @@ fn as_s4(numbers: Flat) -> Found
 {
     if no_release(numbers) {
         let key = Key(numbers.key);
-        let m = Stamp(numbers.m);
-        let o = Stamp(numbers.o);
+        let m = numbers.m;
+        let o = numbers.o;
         return with_thumb(
             numbers.thumb,
             Resting::S4(key, m, Thumb::Left, o),
@@ -183,8 +194,8 @@ fn as_s5(numbers: Flat) -> Found
 {
     if no_release(numbers) {
         let key = Key(numbers.key);
-        let m = Stamp(numbers.m);
-        let o = Stamp(numbers.o);
+        let m = numbers.m;
+        let o = numbers.o;
         return with_thumb(
             numbers.thumb,
             Resting::S5(Thumb::Left, o, key, m),
@@ -198,9 +209,9 @@ fn as_s6(numbers: Flat) -> Found
     ensures { λ r. ⌜ found-as r ≡ as-S6 numbers ⌝ }
 {
     let key = Key(numbers.key);
-    let m = Stamp(numbers.m);
-    let o = Stamp(numbers.o);
-    let r = Stamp(numbers.r);
+    let m = numbers.m;
+    let o = numbers.o;
+    let r = numbers.r;
     with_thumb(
         numbers.thumb,
         Resting::S6(Thumb::Left, o, key, m, r),
@@ -228,6 +239,10 @@ fn find(numbers: Flat) -> Found
 pub fn machine_of(numbers: Flat) -> Named
     ensures { λ r. ⌜ named-as r ≡ named numbers ⌝ }
 {
+    if numbers.held >= BITS {
+        return Named::None;
+    }
+    let last = numbers.last;
     match find(numbers) {
         Found::None => Named::None,
         Found::Some(resting) => Named::Some(Machine {
@@ -238,7 +253,8 @@ pub fn machine_of(numbers: Flat) -> Named
                 solo: numbers.solo,
             },
             resting: resting,
-            last: Stamp(numbers.last),
+            last: last,
+            held: numbers.held as u32,
         }),
     }
 }
@@ -248,10 +264,11 @@ pub fn no_machine() -> Flat
     ensures { λ r. ⌜ r ≡ no-machine ⌝ }
 {
     Flat {
-        last: 0,
-        m: 0,
-        o: 0,
-        r: 0,
+        last: UNUSED,
+        m: UNUSED,
+        o: UNUSED,
+        r: UNUSED,
+        held: 0,
         t: 0,
         j: 0,
         l: 0,
@@ -262,16 +279,9 @@ pub fn no_machine() -> Flat
     }
 }
 
-// No state, no settings and no stamp.
-fn unopened(numbers: Flat) -> bool
-    ensures { λ r. ⌜ r ≡ unopened numbers ⌝ }
+fn no_settings(numbers: Flat) -> bool
+    ensures { λ r. ⌜ r ≡ no-settings numbers ⌝ }
 {
-    if numbers.state != 0 {
-        return false;
-    }
-    if numbers.last != 0 {
-        return false;
-    }
     if numbers.t != 0 {
         return false;
     }
@@ -282,6 +292,22 @@ fn unopened(numbers: Flat) -> bool
         return false;
     }
     numbers.solo == 0
+}
+
+// No state, no last stamp, no held key and no settings.
+fn unopened(numbers: Flat) -> bool
+    ensures { λ r. ⌜ r ≡ unopened numbers ⌝ }
+{
+    if numbers.state != 0 {
+        return false;
+    }
+    if numbers.last.0 != 0 {
+        return false;
+    }
+    if numbers.held != 0 {
+        return false;
+    }
+    no_settings(numbers)
 }
 
 // Whether every number is 0.

@@ -13,10 +13,10 @@ as-s2-spec =
     (λ c κs. tt)
     (λ c.
     rw (
-      ← c .before .before .before .no-thumb .ensures,
-      c .before .before .if1 .taken,
-      ← c .before .no-release .ensures,
-      c .if2 .taken,
+      ← c .before .before .before .before .no-thumb .ensures,
+      c .before .before .before .if1 .taken,
+      ← c .before .before .no-release .ensures,
+      c .before .if2 .taken,
     ))
     (λ c.
     let e = c .before .no-thumb .ensures in

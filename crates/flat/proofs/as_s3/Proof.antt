@@ -14,10 +14,10 @@ as-s3-spec =
     (λ c κs. tt)
     (λ c.
     rw (
-      ← c .before .before .before .before .no-character .ensures,
-      c .before .before .before .if1 .taken,
-      ← c .before .before .no-release .ensures,
-      c .before .if2 .taken,
+      ← c .before .before .before .before .before .no-character .ensures,
+      c .before .before .before .before .if1 .taken,
+      ← c .before .before .before .no-release .ensures,
+      c .before .before .if2 .taken,
       ← c .with-thumb .ensures,
     ))
     (λ c.

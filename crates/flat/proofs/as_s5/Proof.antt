@@ -10,5 +10,5 @@ as-s5-spec =
     (tie.spec
     (λ c κs. tt)
     (λ c κs. tt)
-    (λ c. rw (← c .before .before .no-release .ensures, c .before .if1 .taken, ← c .with-thumb .ensures))
+    (λ c. rw (← c .before .before .before .before .no-release .ensures, c .before .before .before .if1 .taken, ← c .with-thumb .ensures))
     (λ c. rw (← c .before .no-release .ensures, c .if1 .left)))

@@ -13,6 +13,5 @@ unopened-spec =
     (λ c. search (ne-eqb, needs))
     (λ c. search (eq-eqb, ne-eqb, needs))
     (λ c. search (eq-eqb, ne-eqb, needs))
-    (λ c. search (eq-eqb, ne-eqb, needs))
-    (λ c. search (eq-eqb, ne-eqb, needs))
+    (λ c κs. tt)
     (λ c. search (eq-eqb, needs)))
