@@ -13,7 +13,7 @@ use borrow.Author.Tests.{ltb-true, ltb-false, lt-ltb, le-ltb, leb-true, le-leb, 
 use Rattle.rules.specs.Choice.{if_then_else_}
 use Rattle.rules.specs.Numbers.{keys, most-held}
 use Rattle.rules.specs.Held.{bit, is-held, held-below, held-keys, hold, release, how-many, held-formed}
-use Rattle.rules.specs.HeldFacts.{HeldFacts, CountsKeys}
+use Rattle.rules.specs.HeldFacts.{HeldFacts, CountsKeys, FormedExactly}
 use Rattle.rules.specs.OneEvent.{same-key}
 use Rattle.rules.specs.declared.Key.{Key}
 use Rattle.rules.proofs.Choices.{both-ways, by-test, either}
@@ -216,6 +216,12 @@ set-formed h t =
 pub formed-test : (h : ℕ) → FormedSet h → held-formed h ≡ true
 unfolding held-formed
 formed-test h f = rw (lt-ltb h (2 ^ keys) (f .below)) (le-leb _ _ (f .few))
+
+pub formed-exactly : (h : ℕ) → FormedExactly h
+formed-exactly h = (
+  (λ t. let f = set-formed h t in (f .below, omega (arith, f .few, counts-keys h (f .below)))),
+  (λ p. formed-test h (record { below = p .0; few = omega (arith, p .1, counts-keys h (p .0)) })),
+)
 
 pub formed-hold : (h : ℕ) (k : Key) → FormedSet h → how-many h ≢ most-held → FormedSet (hold h k)
 formed-hold h k f ne =

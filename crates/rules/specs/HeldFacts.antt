@@ -1,12 +1,12 @@
 -- The number of Held.antt is a set of keys: what it holds after key k was put in and after it was taken out, for every key, and how
 -- many that are. The proofs are in proofs/Held.antt.
-use Prim.Native.Nat.{ℕ, suc, _^_, _<_}
+use Prim.Native.Nat.{ℕ, suc, _^_, _≤_, _<_}
 use mathlib.Core.Bool.{true, false}
-use mathlib.Core.Logic.{_≢_}
+use mathlib.Core.Logic.{_↔_, _≢_}
 use mathlib.Core.Path.{_≡_}
 use lib.ListN.{length}
-use Rattle.rules.specs.Numbers.{keys}
-use Rattle.rules.specs.Held.{is-held, held-keys, hold, release, how-many}
+use Rattle.rules.specs.Numbers.{keys, most-held}
+use Rattle.rules.specs.Held.{is-held, held-keys, hold, release, how-many, held-formed}
 use Rattle.rules.specs.declared.Key.{Key}
 
 -- of every set h and key k
@@ -27,3 +27,7 @@ pub record HeldFacts (h : ℕ) (k : Key) : Type 0 where
 -- Of every set with no bit above those of the keys: the number of ones is the number of held keys.
 abbrev pub CountsKeys : ℕ → Type 0
 CountsKeys h = h < 2 ^ keys → how-many h ≡ length (held-keys h)
+
+-- So a set may be in a well-formed machine exactly when its bits are keys' and at most 6 keys are held.
+abbrev pub FormedExactly : ℕ → Type 0
+FormedExactly h = held-formed h ≡ true ↔ ((h < 2 ^ keys) × (length (held-keys h) ≤ most-held))

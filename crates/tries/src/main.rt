@@ -184,6 +184,7 @@ fn open(t: u16, j: u8, l: u8, solo: u8) -> Machine {
                 settings: settings,
                 resting: Resting::S1,
                 last: Stamp(0),
+                held: 0,
             }
         }
         Opened::Ready(machine) => {
@@ -266,6 +267,37 @@ fn overdue() {
     ask(out, 1_000_000_000_001);
 }
 
+// A repeat of a held key at 99 does nothing, at 100 what is late; the function key leaves 21 held; after its up it is pressed anew.
+fn repeats() {
+    let m = open(100, 50, 50, 0);
+    let m = event(m, 2, 24, 0);
+    let m = event(m, 1, 21, 0);
+    let m = event(m, 1, 21, 99);
+    let m = event(m, 1, 21, 100);
+    let m = event(m, 5, 0, 110);
+    let m = event(m, 1, 21, 120);
+    let m = event(m, 2, 21, 130);
+    event(m, 1, 21, 140);
+}
+
+// Six keys held: a seventh is refused 11, after 3, 4 and 5, and a repeat is not.
+fn seventh_key() {
+    let m = open(100, 50, 50, 0);
+    let m = event(m, 1, 0, 0);
+    let m = event(m, 1, 1, 0);
+    let m = event(m, 1, 2, 0);
+    let m = event(m, 1, 3, 0);
+    let m = event(m, 1, 4, 0);
+    let m = event(m, 1, 30, 0);
+    let m = event(m, 1, 21, 0);
+    let m = event(m, 1, 31, 0);
+    let m = event(m, 1, 21, 1_000_000_000_001);
+    let m = event(m, 1, 30, 10);
+    let m = event(m, 1, 21, 9);
+    let m = event(m, 2, 0, 20);
+    event(m, 1, 21, 30);
+}
+
 fn main() {
     say(
         b"Kinds: 1 character down, 2 up, 3 thumb down, 4 up, 5 function, 6 tick. Thumbs: 0 left, 1 right.\n",
@@ -275,4 +307,6 @@ fn main() {
     late_first();
     slow_hands();
     overdue();
+    repeats();
+    seventh_key();
 }
