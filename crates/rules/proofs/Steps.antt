@@ -55,9 +55,9 @@ pub record Parsed (kind : ℕ) (k : Key) (i : Input) : Type 0 where
   pub key-event : within 1 5 kind ≡ is-key-input i
   pub presses : (h : ℕ) (now : Stamp) → (if eqb kind 1 && not (is-held h k) then (press k now ∷ []) else []) ≡ pressed now (acts-as h i)
   pub key-below : (h : ℕ) → KeyBelow (acts-as h i)
+  pub keys-held : (h : ℕ) (j : Key) → is-held (held-after h (acts-as h i)) j ≡ held-then kind k j (is-held h j)
   pub room : (h : ℕ) → FormedSet h → ((eqb kind 1 && not (is-held h k)) && eqb (how-many h) most-held) ≡ false
       → FormedSet (held-after h (acts-as h i))
-  pub keys-held : (h : ℕ) (j : Key) → is-held (held-after h (acts-as h i)) j ≡ held-then kind k j (is-held h j)
 
 data Allowed (kind : ℕ) (k : Key) : Option Input → Type 0 where
   not-allowed : Allowed kind k none
@@ -81,10 +81,10 @@ module _ (k : Key) where
 
 -- a down holds its key and an up releases it, also where they act as a tick
 down-holds : (h : ℕ) (k : Key) → held-after h (acts-as h (CharacterDown k)) ≡ hold h k
-down-holds h k = either (is-held h k) (λ t. rw t (sym (held-facts h k .held-already t))) (λ f. rw f)
+down-holds h k = either (is-held h k) (λ t. rw (t, held-facts h k .held-already t)) (λ f. rw f)
 
 up-releases : (h : ℕ) (k : Key) → held-after h (acts-as h (CharacterUp k)) ≡ release h k
-up-releases h k = either (is-held h k) (λ t. rw t) (λ f. rw f (sym (held-facts h k .free-already f)))
+up-releases h k = either (is-held h k) (λ t. rw t) (λ f. rw (f, held-facts h k .free-already f))
 
 -- a down is a press of a new key, or acts as a tick
 down-parses : (k : Key) → k .0 < keys → Parsed 1 k (CharacterDown k)
@@ -93,8 +93,8 @@ down-parses k lt =
       key-event = refl;
       presses = λ h now. either (is-held h k) (λ t. rw t) (λ f. rw f);
       key-below = λ h. both-ways KeyBelow (is-held h k) tt lt;
-      room = λ h f. either (is-held h k) (λ t _. rw t f) (λ n. rw n (λ few. formed-hold h k f (eqb-false _ _ few)));
       keys-held = λ h j. ap (λ (g : ℕ). is-held g j) (down-holds h k) ∙ held-by-hold h k j lt;
+      room = λ h f. either (is-held h k) (λ t _. rw t f) (λ n. rw n (λ few. formed-hold h k f (eqb-false _ _ few)));
     }
 
 -- an up releases a held key, or acts as a tick
@@ -104,27 +104,27 @@ up-parses k =
       key-event = refl;
       presses = λ h now. both-ways (λ (i : Input). [] ≡ pressed now i) (is-held h k) refl refl;
       key-below = λ h. both-ways KeyBelow (is-held h k) tt tt;
-      room = λ h f _. both-ways (λ (i : Input). FormedSet (held-after h i)) (is-held h k) (formed-release h k f) f;
       keys-held = λ h j. ap (λ (g : ℕ). is-held g j) (up-releases h k) ∙ held-by-release h k j;
+      room = λ h f _. subst FormedSet (sym (up-releases h k)) (formed-release h k f);
     }
 
 -- kinds 3 to 6: no key is pressed, held or released
 module _ (k : Key) where
   thumb-down-parses : (P : Thumb) → Parsed 3 k (ThumbDown P)
   thumb-down-parses P =
-      record { key-event = refl; presses = λ h now. refl; key-below = λ h. tt; room = λ h f _. f; keys-held = λ h j. refl }
+      record { key-event = refl; presses = λ h now. refl; key-below = λ h. tt; keys-held = λ h j. refl; room = λ h f _. f }
 
   thumb-up-parses : (P : Thumb) → Parsed 4 k (ThumbUp P)
   thumb-up-parses P =
-      record { key-event = refl; presses = λ h now. refl; key-below = λ h. tt; room = λ h f _. f; keys-held = λ h j. refl }
+      record { key-event = refl; presses = λ h now. refl; key-below = λ h. tt; keys-held = λ h j. refl; room = λ h f _. f }
 
   function-parses : Parsed 5 k FunctionDown
   function-parses =
-      record { key-event = refl; presses = λ h now. refl; key-below = λ h. tt; room = λ h f _. f; keys-held = λ h j. refl }
+      record { key-event = refl; presses = λ h now. refl; key-below = λ h. tt; keys-held = λ h j. refl; room = λ h f _. f }
 
   tick-parses : Parsed 6 k Tick
   tick-parses =
-      record { key-event = refl; presses = λ h now. refl; key-below = λ h. tt; room = λ h f _. f; keys-held = λ h j. refl }
+      record { key-event = refl; presses = λ h now. refl; key-below = λ h. tt; keys-held = λ h j. refl; room = λ h f _. f }
 
 parses : (kind : ℕ) (k : Key) → Allowed kind k (input kind k)
 unfolding input
@@ -154,8 +154,8 @@ pub record Accepted (m : Machine) (e : Event) (i : Input) : Type 0 where
   pub key-event : within 1 5 (e .kind) ≡ is-key-input i
   pub presses : (if is-new m e then (press (e .key) (e .stamp) ∷ []) else []) ≡ pressed (e .stamp) (acts-as (m .held) i)
   pub key-below : KeyBelow (acts-as (m .held) i)
-  pub stays-formed : FormedSet (held-after (m .held) (acts-as (m .held) i))
   pub keys-held : (j : Key) → is-held (held-after (m .held) (acts-as (m .held) i)) j ≡ held-then (e .kind) (e .key) j (is-held (m .held) j)
+  pub stays-formed : FormedSet (held-after (m .held) (acts-as (m .held) i))
 
 -- what an accepted event gives back
 abbrev pub taken : Machine → Event → Input → Answer
