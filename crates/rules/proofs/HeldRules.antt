@@ -6,6 +6,7 @@ use borrow.Author.Tests.{lt-ltb}
 use Rattle.rules.specs.Numbers.{keys}
 use Rattle.rules.specs.Held.{is-held}
 use Rattle.rules.specs.GivenBack.{input, is-new, judge, Answer, step}
+use Rattle.rules.specs.Sequences.{state}
 use Rattle.rules.specs.Demand3.{tick}
 use Rattle.rules.specs.DistanceFacts.{only-time-passes}
 use Rattle.rules.specs.HeldRules.{down, up, ActsAsTick, held-then, HeldAfterwards, HeldInSequences}
@@ -13,7 +14,7 @@ use Rattle.rules.specs.declared.Stamp.{Stamp}
 use Rattle.rules.specs.declared.Key.{Key}
 use Rattle.rules.specs.declared.Machine.{Machine}
 use Rattle.rules.specs.declared.Event.{Event}
-use Rattle.rules.proofs.Held.{held-key}
+use Rattle.rules.proofs.Held.{held-key, formed-test, formed-exactly}
 use Rattle.rules.proofs.Steps.{step-cases}
 use Rattle.rules.proofs.Ticks.{not-0}
 use Rattle.rules.proofs.Demand3.{ran}
@@ -50,4 +51,5 @@ held-afterwards m e =
 pub held-in-sequences : HeldInSequences
 held-in-sequences s r es =
     let n = ran s r es .next in
-    record { at-most-6 = n .formed .few; waiting-is-held = n .waits-held }
+    let h = state s es .held in
+    record { at-most-6 = formed-exactly h .0 (formed-test h (n .formed)) .1; waiting-is-held = n .waits-held }

@@ -13,7 +13,7 @@ use Rattle.rules.specs.declared.Key.{Key}
 abbrev pub bit : ℕ → ℕ → ℕ
 bit h k = h / 2 ^ k % 2
 
--- Key k is held: bit k of the set h is 1. The number of no character key is never held.
+-- Key k is held: bit k of the set h is 1. A number that is no character key's is never held.
 unfoldable pub is-held : ℕ → Key → Bool
 is-held h k = ltb (k .0) keys && eqb (bit h (k .0)) 1
 
@@ -26,7 +26,7 @@ held-below h (suc n) = held-below h n ++ (if is-held h (record { 0 = n }) then r
 unfoldable pub held-keys : ℕ → List Key
 held-keys h = held-below h keys
 
--- the set with key k in it; as it was for the number of no character key
+-- the set with key k in it, if k is a character key
 unfoldable pub hold : ℕ → Key → ℕ
 hold h k = if is-held h k then h else if ltb (k .0) keys then h + 2 ^ k .0 else h
 

@@ -4,9 +4,10 @@ use mathlib.Core.Bool.{Bool, true, false, _&&_}
 use mathlib.Core.List.{List, [], _∷_}
 use mathlib.Core.Path.{_≡_}
 use lib.Dec.{eqb}
+use lib.ListN.{length}
 use Rattle.rules.specs.Choice.{if_then_else_}
 use Rattle.rules.specs.Numbers.{keys, most-held, in-range}
-use Rattle.rules.specs.Held.{is-held, how-many}
+use Rattle.rules.specs.Held.{is-held, held-keys}
 use Rattle.rules.specs.OneEvent.{same-key}
 use Rattle.rules.specs.GivenBack.{step}
 use Rattle.rules.specs.Sequences.{Press, waiting, state}
@@ -52,7 +53,7 @@ AllHeld h (p ∷ ps) = (is-held h (p .key) ≡ true) × AllHeld h ps
 
 -- Of every sequence of events from a fresh state: at most 6 keys are held, and a waiting key is held.
 pub record HeldInSequence (s : Settings) (es : List Event) : Type 0 where
-  pub at-most-6 : how-many (state s es .held) ≤ most-held
+  pub at-most-6 : length (held-keys (state s es .held)) ≤ most-held
   pub waiting-is-held : AllHeld (state s es .held) (waiting (state s es .resting))
 
 abbrev pub HeldInSequences : Type 0
