@@ -1,7 +1,7 @@
 -- A waiting key stays held: an action leaves nothing waiting but what waited and what is pressed, and an up of the waiting key
 -- commits it.
 use Prim.Native.Nat.{ℕ}
-use mathlib.Core.Bool.{Bool, true, false}
+use mathlib.Core.Bool.{true}
 use mathlib.Core.List.{List, [], _∷_, _++_}
 use mathlib.Core.Logic.{_≢_}
 use mathlib.Core.Path.{_≡_, sym, _∙_, ap, subst}
