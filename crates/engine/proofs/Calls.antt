@@ -24,12 +24,12 @@ calls-after : {m : Machine} {es : List Event} {rs : List Stepped} → Calls m es
 calls-after no-more = refl
 calls-after (call {es = es} h c) = calls-after c ∙ ap (λ (a : Answer). after (a .machine) es) (h .answer)
 
-calls-along : {X : Type 0} (f : Event → Answer → List X) {m : Machine} {es : List Event} {rs : List Stepped} → Calls m es rs
-    → along-calls f es rs ≡ along f m es
+calls-along : {X : Type 0} (f : Machine → Event → Answer → List X) {m : Machine} {es : List Event} {rs : List Stepped} → Calls m es rs
+    → along-calls f m es rs ≡ along f m es
 calls-along f no-more = refl
-calls-along f (call {e = e} {r = r} {es = es} h c) =
-    ap (λ (l : List _). f e (stepped r) ++ l) (calls-along f c)
-    ∙ ap (λ (a : Answer). f e a ++ along f (a .machine) es) (h .answer)
+calls-along f (call {m = m} {e = e} {r = r} {es = es} h c) =
+    ap (λ (l : List _). f m e (stepped r) ++ l) (calls-along f c)
+    ∙ ap (λ (a : Answer). f m e a ++ along f (a .machine) es) (h .answer)
 
 -- what a machine that was opened is
 record FreshInRange (s : Settings) (m : Machine) : Type 0 where

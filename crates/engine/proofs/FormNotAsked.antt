@@ -6,7 +6,7 @@ use lib.Dec.{ltb, eqb}
 use Rattle.rules.specs.Numbers.{largest-stamp}
 use Rattle.rules.specs.States.{well-formed}
 use Rattle.rules.specs.OneEvent.{settle, one-event}
-use Rattle.rules.specs.GivenBack.{Verdict, refused, accepted, input, judge-input, judge, answer, step}
+use Rattle.rules.specs.GivenBack.{Verdict, refused, accepted, input, too-many, judge-input, judge, answer, step}
 use Rattle.rules.specs.declared.Stamp.{Stamp}
 use Rattle.rules.specs.declared.Machine.{Machine}
 use Rattle.rules.specs.declared.Event.{Event}
@@ -27,9 +27,11 @@ abbrev Not0 : Verdict → Type 0
 Not0 (refused n) = eqb n 0 ≡ false
 Not0 (accepted i) = Unit {0}
 
-not-0 : (last now : Stamp) (i : Option Input) → Not0 (judge-input last now i)
-not-0 last now none = refl
-not-0 last now (some i) = both-ways Not0 (ltb largest-stamp (now .0)) refl (both-ways Not0 (ltb (now .0) (last .0)) refl tt)
+not-0 : (m : Machine) (e : Event) (i : Option Input) → Not0 (judge-input m e i)
+not-0 m e none = refl
+not-0 m e (some i) =
+    both-ways Not0 (ltb largest-stamp (e .stamp .0)) refl
+    (both-ways Not0 (ltb (e .stamp .0) (m .last .0)) refl (both-ways Not0 (too-many m e) refl tt))
 
 same-answer : (m : Machine) (now : Stamp) (v : Verdict) → well-formed m ≡ true → Not0 v
     → by-verdict m now v ≡ apart-from-sent (answer m now v)
@@ -38,4 +40,4 @@ same-answer m now (accepted i) w z = rw (formed-one-event m now i w)
 
 pub as-step : AsStep
 unfolding take-formed step judge judge-event
-as-step m e w = rw w (same-answer m (e .stamp) (judge-event m e) w (not-0 (m .last) (e .stamp) (input (e .kind) (e .key))))
+as-step m e w = rw w (same-answer m (e .stamp) (judge-event m e) w (not-0 m e (input (e .kind) (e .key))))

@@ -1,4 +1,5 @@
 mod Laws
 mod Allowed
+mod Acting
 pub mod FormNotAsked
 pub mod Calls

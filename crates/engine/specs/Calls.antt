@@ -34,16 +34,16 @@ abbrev pub last-machine : Machine → List Stepped → Machine
 last-machine m [] = m
 last-machine m (r ∷ rs) = last-machine (r .machine) rs
 
--- what f reads off each event and its answer, joined along the calls
-abbrev pub along-calls : {X : Type 0} → (Event → Answer → List X) → List Event → List Stepped → List X
-along-calls f [] rs = []
-along-calls f (e ∷ es) [] = []
-along-calls f (e ∷ es) (r ∷ rs) = f e (stepped r) ++ along-calls f es rs
+-- what f reads off each event, the machine that it got and its answer, joined along the calls
+abbrev pub along-calls : {X : Type 0} → (Machine → Event → Answer → List X) → Machine → List Event → List Stepped → List X
+along-calls f m [] rs = []
+along-calls f m (e ∷ es) [] = []
+along-calls f m (e ∷ es) (r ∷ rs) = f m e (stepped r) ++ along-calls f (r .machine) es rs
 
 -- Demand 3 is about what the two functions return: the calls leave the machine, and give the readings (items, sendings, presses,
 -- numbers: any f), of the definition's sequence from a fresh state, and of that sequence demand 3 holds.
 pub record OfTheCode (s : Settings) (m : Machine) (es : List Event) (rs : List Stepped) : Type 1 where
   pub settings-in-range : in-range s ≡ true
   pub same-machine : last-machine m rs ≡ state s es
-  pub same-readings : {X : Type 0} (f : Event → Answer → List X) → along-calls f es rs ≡ along f (fresh s) es
+  pub same-readings : {X : Type 0} (f : Machine → Event → Answer → List X) → along-calls f m es rs ≡ along f (fresh s) es
   pub demand-3-holds : Demand3 s es

@@ -47,10 +47,10 @@ pub record Gives (r : Stepped) (a : Answer) : Type 0 where
   pub answer : stepped r ≡ a
   pub packed : r .sendings ≡ packed-sendings (a .sendings)
 
--- the items of an accepted event, and the machine after it
-pub record Changes (r : Change) (m : Machine) (now : Stamp) (d : Done) : Type 0 where
+-- the items of an accepted event, and the machine after it, with the keys of h held
+pub record Changes (r : Change) (m : Machine) (now : Stamp) (h : ℕ) (d : Done) : Type 0 where
   pub same-items : listed (r .items) ≡ d .items
-  pub same-machine : r .machine ≡ acceptance m now d .machine
+  pub same-machine : r .machine ≡ acceptance m now h d .machine
 
 -- an answer apart from what is sent: refused with a number, or the items and the machine
 pub data Kept : Type 0 where

@@ -1,6 +1,7 @@
 // One event at a machine: whether it is refused, what it commits and sends, and the machine after it. A machine is opened by
 // `rules::Machine::open`; what else a caller asks of one is passed on from the crates below.
 mod by_state;
+mod holding;
 
 use by_state::event_in;
 pub use deadlines::Asked;
@@ -8,6 +9,9 @@ pub use deadlines::distance;
 use deadlines::is_due;
 pub use deadlines::well_formed;
 use effects::Effect;
+use holding::acting;
+use holding::held_after;
+use holding::too_many;
 pub use preview::Items;
 pub use preview::Sendings;
 pub use preview::Signs;
@@ -29,7 +33,7 @@ ghost use mathlib.Core.Bool.{true};
 ghost use mathlib.Core.List.{[]};
 ghost use Rattle.rules.specs.States.{well-formed};
 ghost use Rattle.rules.specs.OneEvent.{one-event};
-ghost use Rattle.rules.specs.GivenBack.{judge-stamp, judge, refusal, acceptance, step};
+ghost use Rattle.rules.specs.GivenBack.{acts-as, held-after, judge-room, judge-stamp, judge, refusal, acceptance, step};
 ghost use Rattle.preview.specs.Views.{Sends};
 ghost use Rattle.rules.specs.declared.Input.{Input};
 ghost use Rattle.effects.specs.Views.{done};
@@ -72,35 +76,45 @@ fn keys_of(kind: u8) -> Key
     }
 }
 
-// The stamp's number: 4, 5, or 0 where it is accepted.
-fn judge_stamp(last: Stamp, now: Stamp) -> u8
-    ensures { λ r. ⌜ ((i : Input) → judged r i ≡ judge-stamp last now i) ⌝ }
+// 11 for one key too many, else 0.
+fn judge_room(machine: Machine, event: Event) -> u8
+    ensures { λ r. ⌜ ((i : Input) → judged r (acts-as (machine .held) i) ≡ judge-room machine event i) ⌝ }
 {
+    if too_many(machine, event) {
+        return 11;
+    }
+    0
+}
+
+// The stamp's number, 4 or 5; then 11, or 0 where the event is accepted.
+fn judge_stamp(machine: Machine, event: Event) -> u8
+    ensures { λ r. ⌜ ((i : Input) → judged r (acts-as (machine .held) i) ≡ judge-stamp machine event i) ⌝ }
+{
+    let last = machine.last;
+    let now = event.stamp;
     if before(Machine::LARGEST, now) {
         return 4;
     }
     if before(now, last) {
         return 5;
     }
-    0
+    judge_room(machine, event)
 }
 
 // The checks of an event itself, in document 01's order; 0 where it is accepted.
 fn judge_event(machine: Machine, event: Event) -> u8
-    ensures { λ r. ⌜ judged r (meant (event .kind) (event .key)) ≡ judge-event machine event ⌝ }
+    ensures { λ r. ⌜ judged r (acts-as (machine .held) (meant (event .kind) (event .key))) ≡ judge-event machine event ⌝ }
 {
-    let last = machine.last;
     let key = event.key;
-    let now = event.stamp;
     if lower_key(key, keys_of(event.kind)) {
-        return judge_stamp(last, now);
+        return judge_stamp(machine, event);
     }
     3
 }
 
 // All checks: whether the machine is well formed comes first.
 fn judge(machine: Machine, event: Event) -> u8
-    ensures { λ r. ⌜ judged r (meant (event .kind) (event .key)) ≡ judge machine event ⌝ }
+    ensures { λ r. ⌜ judged r (acts-as (machine .held) (meant (event .kind) (event .key))) ≡ judge machine event ⌝ }
 {
     if !well_formed(machine) {
         return 2;
@@ -125,10 +139,12 @@ fn one_event(s: Settings, now: Stamp, resting: Resting, kind: u8, k: Key) -> Eff
     act(s, now, resting, kind, k)
 }
 
-// What an accepted event commits, and the machine after it.
+// What an accepted event commits, and the machine after it, by the kind that it acts as.
 fn carry_out(machine: Machine, now: Stamp, kind: u8, k: Key) -> Change
-    ensures { λ r. ⌜ Changes r machine now (one-event-at-most (machine .settings) now (machine .resting) (meant kind k)) ⌝ }
+    ensures { λ r. ⌜ Changes r machine now (held-after (machine .held) (meant kind k))
+        (one-event-at-most (machine .settings) now (machine .resting) (meant kind k)) ⌝ }
 {
+    let held = machine.held;
     let s = machine.settings;
     let resting = machine.resting;
     let effect = one_event(s, now, resting, kind, k);
@@ -140,13 +156,15 @@ fn carry_out(machine: Machine, now: Stamp, kind: u8, k: Key) -> Change
             settings: s,
             resting: next,
             last: now,
+            held: held_after(held, kind, k),
         },
     }
 }
 
 fn accepted(machine: Machine, now: Stamp, kind: u8, k: Key) -> Stepped
     requires { ⌜ well-formed machine ≡ true ⌝ }
-    ensures { λ r. ⌜ Gives r (acceptance machine now (one-event (machine .settings) now (machine .resting) (meant kind k))) ⌝ }
+    ensures { λ r. ⌜ Gives r (acceptance machine now (held-after (machine .held) (meant kind k))
+        (one-event (machine .settings) now (machine .resting) (meant kind k))) ⌝ }
 {
     let resting = machine.resting;
     let done = carry_out(machine, now, kind, k);
@@ -197,7 +215,8 @@ pub fn step(machine: Machine, event: Event) -> Stepped
     if number != 0 {
         return refused(machine, number);
     }
-    accepted(machine, now, event.kind, key)
+    let held = machine.held;
+    accepted(machine, now, acting(held, event.kind, key), key)
 }
 
 // An event apart from what is sent, for a caller who knows that the machine is well formed: it is not asked again.
@@ -212,13 +231,16 @@ pub fn take_formed(machine: Machine, event: Event) -> Taken
     }
     let s = machine.settings;
     let resting = machine.resting;
-    let effect = event_in(s, now, resting, event.kind, key);
+    let held = machine.held;
+    let kind = acting(held, event.kind, key);
+    let effect = event_in(s, now, resting, kind, key);
     let items = effect.items;
     let next = effect.resting;
     let after = Machine {
         settings: s,
         resting: next,
         last: now,
+        held: held_after(held, kind, key),
     };
     Taken::Accepted(items, after)
 }

@@ -7,4 +7,7 @@ carry-out-spec =
     tie.close
     (tie.spec
     (λ c κs. tt)
-    (λ c. record { same-items = rw (← c .one-event .ensures); same-machine = rw (← c .one-event .ensures) }))
+    (λ c κs. tt)
+    (λ c.
+    let e = c .before .one-event .ensures in
+    record { same-items = rw (← e); same-machine = rw (← e, ← c .held-after .ensures) }))

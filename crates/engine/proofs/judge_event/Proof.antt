@@ -1,4 +1,5 @@
 -- `engine::judge_event` meets its contract.
+use Rattle.states.specs.Meant.{meant}
 use Rattle.engine.specs.FormNotAsked.{judge-event}
 use Rattle.engine.proofs.Allowed.{is-allowed, not-allowed}
 use Rattle.engine.proofs.judge_event.Statement.{statement}
@@ -15,7 +16,9 @@ judge-event-spec =
     (λ c.
     let at-if = c .before in
     let at-keys = at-if .before .before in
-    rw (is-allowed _ _ (at-keys .keys-of .ensures) (at-if .before .lower-key .ensures) (at-if .if1 .taken)) (c .judge-stamp .ensures _))
+    let e = at-keys .before .before .args .event in
+    rw (is-allowed _ _ (at-keys .keys-of .ensures) (at-if .before .lower-key .ensures) (at-if .if1 .taken))
+    (c .judge-stamp .ensures (meant (e .kind) (e .key))))
     (λ c.
     let at-keys = c .before .before in
     rw (not-allowed _ _ (at-keys .keys-of .ensures) (c .before .lower-key .ensures) (c .if1 .left))))

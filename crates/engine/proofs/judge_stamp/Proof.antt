@@ -16,10 +16,12 @@ judge-stamp-spec =
       ← c .before .before3 .ensures,
       c .if2 .taken,
     ))
+    (λ c κs. tt)
     (λ c i.
+    let at-if = c .before in
     rw (
-      ← c .before .before .before .before2 .ensures,
-      c .before .before .if1 .left,
-      ← c .before .before3 .ensures,
-      c .if2 .left,
-    )))
+      ← at-if .before .before .before .before2 .ensures,
+      at-if .before .before .if1 .left,
+      ← at-if .before .before3 .ensures,
+      at-if .if2 .left,
+    ) (c .judge-room .ensures i)))

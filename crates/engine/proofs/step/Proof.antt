@@ -15,7 +15,8 @@ step-spec =
     (λ c.
     let at-if = c .before in
     rw (← at-if .before .judge .ensures, ne-eqb _ 0 (at-if .if1 .taken)) (c .refused .ensures))
-    (λ c κs. accepts-well-formed _ _ _ _ (c .before .judge .ensures) (c .if1 .left))
+    (λ c κs. tt)
+    (λ c κs. accepts-well-formed _ _ _ _ (c .before .before .judge .ensures) (c .before .if1 .left))
     (λ c.
-    let at-if = c .before in
-    rw (← at-if .before .judge .ensures, eq-eqb _ 0 (at-if .if1 .left)) (c .accepted .ensures)))
+    let at-if = c .before .before in
+    rw (← at-if .before .judge .ensures, eq-eqb _ 0 (at-if .if1 .left), ← c .before .acting .ensures) (c .accepted .ensures)))

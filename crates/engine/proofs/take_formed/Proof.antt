@@ -12,6 +12,15 @@ take-formed-spec =
     (λ c κs. tt)
     (λ c. rw (← c .before .judge-event .ensures, ne-eqb _ 0 (c .if1 .taken)))
     (λ c κs. tt)
+    (λ c κs. tt)
+    (λ c κs. tt)
     (λ c.
-    let at-if = c .before .before in
-    rw (← at-if .before .judge-event .ensures, eq-eqb _ 0 (at-if .if1 .left), ← c .event-in .ensures)))
+    let at-acting = c .before .before in
+    let at-if = at-acting .before .before in
+    rw (
+      ← at-if .before .judge-event .ensures,
+      eq-eqb _ 0 (at-if .if1 .left),
+      ← at-acting .acting .ensures,
+      ← c .before .event-in .ensures,
+      ← c .held-after .ensures,
+    )))
