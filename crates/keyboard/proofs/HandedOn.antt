@@ -15,19 +15,27 @@ use Rattle.rules.proofs.Choices.{both-ways}
 use Rattle.rules.proofs.Formed.{stays-formed}
 use Rattle.flat.specs.Fields.{flat, named, numbers-of}
 use Rattle.flat.specs.declared.Flat.{Flat}
-use Rattle.flat.proofs.RoundTrip.{loses-nothing}
+use Rattle.flat.proofs.RoundTrip.{loses-nothing, all-fit}
 use Rattle.keyboard.specs.Keyboard.{event-of, answered-numbers, refused-numbers, step-named, step-numbers}
 use Rattle.keyboard.specs.declared.OpenAnswer.{OpenAnswer}
 use Rattle.keyboard.specs.declared.StepAnswer.{StepAnswer}
 use Rattle.keyboard.specs.KeyboardFacts.{KeyboardCalls, no-more, call, KeyboardRun, last-numbers, answers, formed-named, formed-numbers, KeyboardFacts}
 
-numbers-name : (x : Option Machine) → named (numbers-of x) ≡ x
-numbers-name none = loses-nothing .none-named
-numbers-name (some x) = loses-nothing .back x
+-- the numbers that opening gives: zeros, or a fresh machine's
+opens : (s : Settings) → named (numbers-of (opening s .machine)) ≡ opening s .machine
+unfolding opening
+opens s =
+    both-ways (λ (o : Opening). named (numbers-of (o .machine)) ≡ o .machine) (in-range s)
+    (loses-nothing .back (fresh s) (all-fit .fresh-fits s))
+    (loses-nothing .none-named)
+
+-- the numbers of a machine after an event, at one that numbers name
+after-back : (f : Flat) (x : Machine) (e : Event) → named f ≡ some x → named (flat (step x e .machine)) ≡ some (step x e .machine)
+after-back f x e h = loses-nothing .back (step x e .machine) (all-fit .step-fits x e (all-fit .named-fits f x h))
 
 steps-on : (f : Flat) (x : Machine) (e : Event) → named f ≡ some x → named (step-numbers f e .machine) ≡ some (step x e .machine)
 unfolding step-numbers
-steps-on f x e h = rw h (loses-nothing .back (step x e .machine))
+steps-on f x e h = rw h (after-back f x e h)
 
 -- of a machine's answer, by its verdict
 by-verdict : (f : Flat) (x : Machine) (e : Event) → flat x ≡ f → (v : Verdict)
@@ -70,7 +78,7 @@ from-opening : {s : Settings} {first : OpenAnswer} {es : List Event} {rs : List 
 from-opening {s} run =
     let same = run .opened-as in
     let zero : opening s .number ≡ 0 = sym (ap (λ (a : OpenAnswer). a .number) same) ∙ run .opened-well in
-    let names = ap (λ (a : OpenAnswer). named (a .machine)) same ∙ numbers-name (opening s .machine) ∙ opened-fresh s zero in
+    let names = ap (λ (a : OpenAnswer). named (a .machine)) same ∙ opens s ∙ opened-fresh s zero in
     runs-from (fresh s) names (run .calls)
 
 keeps-formed : (f : Flat) (e : Event) → formed-numbers (step-numbers f e .machine) ≡ formed-numbers f
@@ -79,12 +87,12 @@ keeps-formed f e = go (named f) refl
   where
     go : (y : Option Machine) → named f ≡ y → formed-numbers (step-named f e y .machine) ≡ formed-named y
     go none h = ap formed-named h
-    go (some x) h = ap formed-named (loses-nothing .back (step x e .machine)) ∙ stays-formed x e
+    go (some x) h = ap formed-named (after-back f x e h) ∙ stays-formed x e
 
 pub keyboard-facts : KeyboardFacts
 keyboard-facts =
     record {
-      opens = λ s. numbers-name (opening s .machine);
+      opens = opens;
       steps-on = steps-on;
       refuses = refuses;
       runs = λ run. from-opening run .0;

@@ -19,7 +19,7 @@ use Rattle.keyboard.specs.Keyboard.{event-of, answered-numbers, refused-
 
 -- a tick as C hands it over: kind 6, key 0
 abbrev pub tick-at : Stamp → Event
-tick-at t = event-of 6 0 (t .0)
+tick-at t = event-of 6 0 t
 
 -- there is a deadline, and it is due now or overdue
 abbrev pub SaysDue : DistanceAnswer → Type 0
@@ -45,10 +45,11 @@ told-later r d =
 abbrev pub with-last : Flat → Stamp → Flat
 with-last f t =
     record {
-      last = t .0;
+      last = t;
       m = f .m;
       o = f .o;
       r = f .r;
+      held = f .held;
       t = f .t;
       j = f .j;
       l = f .l;

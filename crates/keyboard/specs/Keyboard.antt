@@ -7,7 +7,7 @@ use lib.IntN.{ℤ, pos}
 use lib.ListN.{length, getD}
 use Rattle.rules.specs.Choice.{if_then_else_}
 use Rattle.rules.specs.Layout.{code-point}
-use Rattle.rules.specs.States.{at, Opening}
+use Rattle.rules.specs.States.{Opening}
 use Rattle.rules.specs.ZeroDelay.{mark-word}
 use Rattle.rules.specs.GivenBack.{Answer, step}
 use Rattle.rules.specs.Distance.{Asking, not-answered, asking}
@@ -33,8 +33,8 @@ open-numbers o = record { machine = numbers-of (o .machine); number = o .number 
 
 -- One event.
 
-abbrev pub event-of : ℕ → ℕ → ℕ → Event
-event-of kind key stamp = record { kind = kind; key = record { 0 = key }; stamp = at stamp }
+abbrev pub event-of : ℕ → ℕ → Stamp → Event
+event-of kind key stamp = record { kind = kind; key = record { 0 = key }; stamp = stamp }
 
 -- an item as a word: a character's code point, 0 for an empty face; 1 for the left mark, 2 for the right one
 abbrev pub word-of : Item → ℕ

@@ -10,6 +10,7 @@ use Rattle.rules.specs.Numbers.{settings-of}
 use Rattle.rules.specs.States.{fresh, well-formed, opening}
 use Rattle.rules.specs.GivenBack.{Answer, step}
 use Rattle.rules.specs.Sequences.{along, state}
+use Rattle.rules.specs.declared.Stamp.{Stamp}
 use Rattle.rules.specs.declared.Settings.{Settings}
 use Rattle.rules.specs.declared.Machine.{Machine}
 use Rattle.rules.specs.declared.Event.{Event}
@@ -23,7 +24,7 @@ use Rattle.keyboard.specs.Keyboard.{event-of, open-numbers, answered-num
 -- function in its own words.
 pub data KeyboardCalls : Flat → List Event → List StepAnswer → Type 0 where
   no-more : {f : Flat} → KeyboardCalls f [] []
-  call : {f : Flat} {kind key stamp : ℕ} {r : StepAnswer} {es : List Event} {rs : List StepAnswer}
+  call : {f : Flat} {kind key : ℕ} {stamp : Stamp} {r : StepAnswer} {es : List Event} {rs : List StepAnswer}
       → r ≡ step-numbers f (event-of kind key stamp)
       → KeyboardCalls (r .machine) es rs
       → KeyboardCalls f (event-of kind key stamp ∷ es) (r ∷ rs)
@@ -41,7 +42,7 @@ last-numbers f (r ∷ rs) = last-numbers (r .machine) rs
 
 -- the answers of document 01 along a sequence, from a machine
 abbrev pub answers : Machine → List Event → List Answer
-answers x es = along (λ e a. a ∷ []) x es
+answers x es = along (λ m e a. a ∷ []) x es
 
 -- numbers that name a machine which is well formed: no others are accepted
 abbrev pub formed-named : Option Machine → Bool

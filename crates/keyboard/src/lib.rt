@@ -11,7 +11,7 @@ use rules::Opened;
 use rules::Settings;
 use rules::Stamp;
 ghost use mathlib.Core.Path.{_≡_};
-ghost use Rattle.rules.specs.States.{at, opening};
+ghost use Rattle.rules.specs.States.{opening};
 ghost use Rattle.preview.specs.Views.{listed};
 ghost use Rattle.deadlines.specs.Views.{asked};
 ghost use Rattle.rules.specs.Numbers.{settings-of};
@@ -157,7 +157,7 @@ pub extern "C" fn trabeculon_open(t: u16, j: u8, l: u8, solo: u8) -> OpenAnswer
 
 // One event at a machine.
 #[no_mangle]
-pub extern "C" fn trabeculon_step(machine: Flat, kind: u8, key: u8, stamp: u64) -> StepAnswer
+pub extern "C" fn trabeculon_step(machine: Flat, kind: u8, key: u8, stamp: Stamp) -> StepAnswer
     ensures { λ r. ⌜ r ≡ step-numbers machine (event-of kind key stamp) ⌝ }
 {
     match flat::machine_of(machine) {
@@ -168,7 +168,7 @@ pub extern "C" fn trabeculon_step(machine: Flat, kind: u8, key: u8, stamp: u64) 
                 Event {
                     kind: kind,
                     key: Key(key),
-                    stamp: Stamp(stamp),
+                    stamp: stamp,
                 },
             );
             let after = done.machine;
@@ -181,11 +181,11 @@ pub extern "C" fn trabeculon_step(machine: Flat, kind: u8, key: u8, stamp: u64) 
 
 // How far the next deadline of a machine lies from a stamp.
 #[no_mangle]
-pub extern "C" fn trabeculon_distance(machine: Flat, stamp: u64) -> DistanceAnswer
-    ensures { λ r. ⌜ r ≡ distance-numbers machine (at stamp) ⌝ }
+pub extern "C" fn trabeculon_distance(machine: Flat, stamp: Stamp) -> DistanceAnswer
+    ensures { λ r. ⌜ r ≡ distance-numbers machine stamp ⌝ }
 {
     match flat::machine_of(machine) {
         Named::None => distance_answer(Asked::NotWellFormed),
-        Named::Some(asked) => distance_answer(engine::distance(asked, Stamp(stamp))),
+        Named::Some(asked) => distance_answer(engine::distance(asked, stamp)),
     }
 }
