@@ -73,12 +73,13 @@ fn join(machine: Machine, state: u8, key: u8, m: Stamp, thumb: u8, o: Stamp, r: 
 {
     let s = machine.settings;
     let last = machine.last;
+    let held = machine.held as u64;
     Flat {
         last: last,
         m: m,
         o: o,
         r: r,
-        held: machine.held as u64,
+        held: held,
         t: s.t,
         j: s.j,
         l: s.l,
