@@ -1,16 +1,19 @@
--- What the machine does at the strokes of one character: from nothing resting to nothing resting, and the character is committed.
-use Prim.Native.Nat.{_+_, _-_, _^_, _≤_, _<_}
+-- What the machine does at the strokes of one character: from nothing resting and no key held to the same, and the character is
+-- committed. So the same character once more is a press and not a repeat.
+use Prim.Native.Nat.{ℕ, _+_, _-_, _^_, _≤_, _<_}
 use native.Mathlib.Nat.{div-eq-of-lt, sub-self, zero-mul}
 use native.Mathlib.Omega.{arith}
-use mathlib.Core.Bool.{true}
+use mathlib.Core.Bool.{true, false}
 use mathlib.Core.List.{List, [], _∷_, _++_, append-assoc}
 use mathlib.Core.Option.{some}
 use mathlib.Core.Path.{_≡_, refl, sym, _∙_, ap, subst}
+use lib.Count.{onesIn}
 use borrow.Author.Tests.{lt-ltb, le-leb, lt-leb, eq-eqb}
 use Rattle.rules.specs.Numbers.{keys, largest-stamp, in-range, up, A, FJ}
+use Rattle.rules.specs.Held.{is-held, hold, release, how-many, held-formed}
 use Rattle.rules.specs.States.{well-formed}
-use Rattle.rules.specs.OneEvent.{Done, _leaving_, nothing, plain, chord, same-key, settle, one-event}
-use Rattle.rules.specs.GivenBack.{input, Answer, acceptance, step}
+use Rattle.rules.specs.OneEvent.{_leaving_, nothing, plain, chord, same-key, settle, one-event}
+use Rattle.rules.specs.GivenBack.{input, is-new, too-many, Answer, acceptance, step}
 use Rattle.rules.specs.Sequences.{after, along, items-in}
 use Rattle.rules.specs.declared.Stamp.{Stamp}
 use Rattle.rules.specs.declared.Key.{Key}
@@ -28,6 +31,7 @@ use Rattle.rules.specs.declared.Event.{Event}
 use Rattle.rules.specs.declared.Input.the-variants.{CharacterDown, CharacterUp, ThumbDown, ThumbUp, Tick}
 use Rattle.rules.proofs.Tests.{range-bounds}
 use Rattle.rules.proofs.Bounds.{A-positive}
+use Rattle.rules.proofs.Held.{held-facts, formed-test, formed-hold, none-held, empty-formed}
 use Rattle.rules.proofs.Steps.{step-accepted}
 use Rattle.writer.specs.Drills.{thumb-key, key-down, key-up, thumb-down, thumb-up, tick, strokes-on}
 use Rattle.writer.proofs.Read.{AllAccepted, no-more, and-more}
@@ -84,47 +88,75 @@ chain-append end d = d
 chain-append {m = m} {left = left} {fs = fs} {more = more} (go {e = e} {es = es} {a = a} {items = items} small h z c) d =
     subst (λ (l : List Item). Chain m (e ∷ (es ++ fs)) left l) (sym (append-assoc (a .items) items more)) (go small h z (chain-append c d))
 
-abbrev pub machine-at : Settings → Resting → Stamp → Machine
-machine-at s x last = record { settings = s; resting = x; last = last }
+abbrev pub machine-at : Settings → Resting → Stamp → ℕ → Machine
+machine-at s x last h = record { settings = s; resting = x; last = last; held = h }
 
 module _ (s : Settings) (r : in-range s ≡ true) (t : Stamp) (low : t .0 ≤ largest-stamp) (k : Key) (b : k .0 < keys) where
-  -- what an accepted event at t gives
-  abbrev given : Resting → Stamp → Done → Answer
-  given x last d = acceptance (machine-at s x last) t d
+  -- k alone is held
+  abbrev one : ℕ
+  one = hold 0 k
 
-  S1-well-formed : (last : Stamp) → last .0 ≤ t .0 → well-formed (machine-at s S1 last) ≡ true
-  unfolding well-formed
-  S1-well-formed last h = rw (r, le-leb (last .0) largest-stamp (omega arith))
+  one-formed : held-formed one ≡ true
+  unfolding how-many onesIn
+  one-formed = formed-test one (formed-hold 0 k empty-formed (λ e. omega arith))
 
-  S2-well-formed : well-formed (machine-at s (S2 k t) t) ≡ true
-  unfolding well-formed
-  S2-well-formed = rw (r, lt-ltb (k .0) keys b, le-leb (t .0) (t .0) (omega arith), le-leb (t .0) largest-stamp low)
+  one-held : is-held one k ≡ true
+  one-held = held-facts 0 k .holds b
 
-  S4-well-formed : (O : Thumb) → well-formed (machine-at s (S4 k t O t) t) ≡ true
+  none-again : release one k ≡ 0
+  none-again = held-facts 0 k .back b (none-held k)
+
+  -- the machine before the character, and while k is held
+  abbrev free : Stamp → Machine
+  free last = machine-at s S1 last 0
+
+  abbrev holding : Resting → Machine
+  holding x = machine-at s x t one
+
+  free-well-formed : (last : Stamp) → last .0 ≤ t .0 → well-formed (free last) ≡ true
   unfolding well-formed
-  S4-well-formed O = rw (r, lt-ltb (k .0) keys b, le-leb (t .0) (t .0) (omega arith), le-leb (t .0) largest-stamp low)
+  free-well-formed last h = rw (r, le-leb (last .0) largest-stamp (omega arith)) (formed-test 0 empty-formed)
+
+  S1-well-formed : well-formed (holding S1) ≡ true
+  unfolding well-formed
+  S1-well-formed = rw (r, le-leb (t .0) largest-stamp low) one-formed
+
+  S2-well-formed : well-formed (holding (S2 k t)) ≡ true
+  unfolding well-formed
+  S2-well-formed = rw (r, lt-ltb (k .0) keys b, le-leb (t .0) (t .0) (omega arith), le-leb (t .0) largest-stamp low) one-formed
+
+  S4-well-formed : (O : Thumb) → well-formed (holding (S4 k t O t)) ≡ true
+  unfolding well-formed
+  S4-well-formed O = rw (r, lt-ltb (k .0) keys b, le-leb (t .0) (t .0) (omega arith), le-leb (t .0) largest-stamp low) one-formed
 
   -- Each stroke. Nothing is due in S1; in S2 not before A, which is not 0; in S4 at once, since the thumb came with the key.
 
-  key-goes-down : (last : Stamp) → last .0 ≤ t .0 → step (machine-at s S1 last) (key-down t k) ≡ given S1 last (nothing leaving S2 k t)
+  room : (last : Stamp) → too-many (free last) (key-down t k) ≡ false
+  unfolding is-new how-many onesIn
+  room last = rw (none-held k)
+
+  key-goes-down : (last : Stamp) → last .0 ≤ t .0
+      → step (free last) (key-down t k) ≡ acceptance (free last) t one (nothing leaving S2 k t)
   unfolding one-event settle
   key-goes-down last h =
-      step-accepted (machine-at s S1 last) (key-down t k) (CharacterDown k) (S1-well-formed last h) (down-input k b) low h
+      step-accepted (free last) (key-down t k) (CharacterDown k) (free-well-formed last h) (down-input k b) low h (room last)
+      ∙ rw (none-held k)
 
   S2-waits : t .0 < t .0 + A s
   S2-waits = let a = A-positive s (range-bounds s r) in omega arith
 
-  key-comes-up : step (machine-at s (S2 k t) t) (key-up t k) ≡ given (S2 k t) t (plain k leaving S1)
-  unfolding one-event settle same-key
+  key-comes-up : step (holding (S2 k t)) (key-up t k) ≡ acceptance (holding (S2 k t)) t 0 (plain k leaving S1)
+  unfolding one-event settle same-key is-new
   key-comes-up =
-      step-accepted (machine-at s (S2 k t) t) (key-up t k) (CharacterUp k) S2-well-formed (up-input k b) low (omega arith)
-      ∙ ap (given (S2 k t) t) (rw (lt-leb (t .0 + A s) (t .0) S2-waits, eq-eqb (k .0) (k .0) refl))
+      step-accepted (holding (S2 k t)) (key-up t k) (CharacterUp k) S2-well-formed (up-input k b) low (omega arith) refl
+      ∙ rw (one-held, none-again, lt-leb (t .0 + A s) (t .0) S2-waits, eq-eqb (k .0) (k .0) refl)
 
-  thumb-goes-down : (O : Thumb) → step (machine-at s (S2 k t) t) (thumb-down t O) ≡ given (S2 k t) t (nothing leaving S4 k t O t)
-  unfolding one-event settle
+  thumb-goes-down : (O : Thumb)
+      → step (holding (S2 k t)) (thumb-down t O) ≡ acceptance (holding (S2 k t)) t one (nothing leaving S4 k t O t)
+  unfolding one-event settle is-new
   thumb-goes-down O =
-      step-accepted (machine-at s (S2 k t) t) (thumb-down t O) (ThumbDown O) S2-well-formed (thumb-down-input O) low (omega arith)
-      ∙ ap (given (S2 k t) t) (rw (lt-leb (t .0 + A s) (t .0) S2-waits))
+      step-accepted (holding (S2 k t)) (thumb-down t O) (ThumbDown O) S2-well-formed (thumb-down-input O) low (omega arith) refl
+      ∙ ap (acceptance (holding (S2 k t)) t one) (rw (lt-leb (t .0 + A s) (t .0) S2-waits))
 
   no-wait : FJ s (t .0 - t .0) ≡ 0
   unfolding FJ up
@@ -132,28 +164,30 @@ module _ (s : Settings) (r : in-range s ≡ true) (t : Stamp) (low : t .0 ≤ la
       let bounds = range-bounds s r in
       rw (sub-self, zero-mul) (div-eq-of-lt (omega arith))
 
-  chord-comes-out : (O : Thumb) → step (machine-at s (S4 k t O t) t) (tick t) ≡ given (S4 k t O t) t (chord k O leaving S1)
-  unfolding one-event settle
+  chord-comes-out : (O : Thumb)
+      → step (holding (S4 k t O t)) (tick t) ≡ acceptance (holding (S4 k t O t)) t one (chord k O leaving S1)
+  unfolding one-event settle is-new
   chord-comes-out O =
-      step-accepted (machine-at s (S4 k t O t) t) (tick t) Tick (S4-well-formed O) tick-input low (omega arith)
-      ∙ ap (given (S4 k t O t) t) (rw (le-leb (t .0 + FJ s (t .0 - t .0)) (t .0) (rw no-wait (omega arith))))
+      step-accepted (holding (S4 k t O t)) (tick t) Tick (S4-well-formed O) tick-input low (omega arith) refl
+      ∙ ap (acceptance (holding (S4 k t O t)) t one) (rw (le-leb (t .0 + FJ s (t .0 - t .0)) (t .0) (rw no-wait (omega arith))))
 
-  thumb-comes-up : (O : Thumb) → step (machine-at s S1 t) (thumb-up t O) ≡ given S1 t (nothing leaving S1)
-  unfolding one-event settle
+  thumb-comes-up : (O : Thumb) → step (holding S1) (thumb-up t O) ≡ acceptance (holding S1) t one (nothing leaving S1)
+  unfolding one-event settle is-new
   thumb-comes-up O =
-      step-accepted (machine-at s S1 t) (thumb-up t O) (ThumbUp O) (S1-well-formed t (omega arith)) (thumb-up-input O) low (omega arith)
+      step-accepted (holding S1) (thumb-up t O) (ThumbUp O) S1-well-formed (thumb-up-input O) low (omega arith) refl
 
-  key-comes-up-last : step (machine-at s S1 t) (key-up t k) ≡ given S1 t (nothing leaving S1)
-  unfolding one-event settle
+  key-comes-up-last : step (holding S1) (key-up t k) ≡ acceptance (holding S1) t 0 (nothing leaving S1)
+  unfolding one-event settle is-new
   key-comes-up-last =
-      step-accepted (machine-at s S1 t) (key-up t k) (CharacterUp k) (S1-well-formed t (omega arith)) (up-input k b) low (omega arith)
+      step-accepted (holding S1) (key-up t k) (CharacterUp k) S1-well-formed (up-input k b) low (omega arith) refl
+      ∙ rw (one-held, none-again)
 
   small : t .0 < 256 ^ 8
   small = omega arith
 
-  -- the strokes on a face commit the character and leave nothing resting
+  -- the strokes on a face commit the character and leave nothing resting and no key held
   pub strokes-play : (last : Stamp) → last .0 ≤ t .0 → (f : Face)
-      → Chain (machine-at s S1 last) (strokes-on t k f) (machine-at s S1 t) (Character k f ∷ [])
+      → Chain (machine-at s S1 last 0) (strokes-on t k f) (machine-at s S1 t 0) (Character k f ∷ [])
   strokes-play last h Plain = go small (key-goes-down last h) refl (go small key-comes-up refl end)
   strokes-play last h (With O) =
       go small (key-goes-down last h) refl
