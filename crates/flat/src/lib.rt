@@ -10,7 +10,8 @@ ghost use mathlib.Core.Option.{none, some};
 ghost use lib.Dec.{eqb};
 ghost use Rattle.rules.specs.Choice.{if_then_else_};
 ghost use Rattle.flat.specs.Fields.{thumb-number, joined, flat, no-character, no-thumb, no-release, no-machine};
-ghost use Rattle.flat.specs.Fields.{as-S1, as-S2, as-S3, as-S4, as-S5, as-S6, resting-named, named, no-settings, unopened, is-no-machine};
+ghost use Rattle.flat.specs.Fields.{as-S1, as-S2, as-S3, as-S4, as-S5, as-S6, resting-named, named};
+ghost use Rattle.flat.specs.Fields.{no-settings, unopened, is-no-machine};
 ghost use Rattle.flat.specs.Views.{found-as, named-as};
 
 // A field that a state does not use is 0. Stamps keep their type, so that a number of another clock is not taken for one in C either.

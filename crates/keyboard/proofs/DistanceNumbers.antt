@@ -19,7 +19,8 @@ use Rattle.rules.proofs.DistanceFacts.{distance-facts, same-refusals}
 use Rattle.flat.specs.Fields.{flat, named}
 use Rattle.flat.specs.declared.Flat.{Flat}
 use Rattle.flat.proofs.RoundTrip.{loses-nothing}
-use Rattle.keyboard.specs.Keyboard.{told-numbers, answered-numbers, asked-numbers, step-named, step-numbers, distance-named, distance-numbers}
+use Rattle.keyboard.specs.Keyboard.{told-numbers, answered-numbers, asked-numbers, step-named, step-numbers}
+use Rattle.keyboard.specs.Keyboard.{distance-named, distance-numbers}
 use Rattle.keyboard.specs.DistanceNumbers.{tick-at, SaysDue, SaysIn, SaysNone, told-later, with-last, only-last-numbers}
 use Rattle.keyboard.specs.DistanceNumbers.{DistanceNumbers, SameRefusedNumbers}
 use Rattle.keyboard.specs.declared.StepAnswer.{StepAnswer}
@@ -103,7 +104,8 @@ module _ (f : Flat) (x : Machine) (names : named f ≡ some x) where
             ticks (later now n)
             ∙ ap answered-numbers (facts .tick-on-time n (in-n n h) le);
         never-due = λ h t z.
-            ticks t ∙ ap answered-numbers (facts .never-due (says-none k o (subst SaysNone (asks now) h)) t (accepted t z)) ∙ only-last-is t;
+            ticks t ∙ ap answered-numbers (facts .never-due (says-none k o (subst SaysNone (asks now) h)) t (accepted t z))
+            ∙ only-last-is t;
       }
     where
       due : SaysDue (distance-numbers f now) → DueOrOverdue (asking x now .distance)

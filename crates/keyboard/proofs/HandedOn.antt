@@ -19,7 +19,8 @@ use Rattle.flat.proofs.RoundTrip.{loses-nothing, all-fit}
 use Rattle.keyboard.specs.Keyboard.{event-of, answered-numbers, refused-numbers, step-named, step-numbers}
 use Rattle.keyboard.specs.declared.OpenAnswer.{OpenAnswer}
 use Rattle.keyboard.specs.declared.StepAnswer.{StepAnswer}
-use Rattle.keyboard.specs.KeyboardFacts.{KeyboardCalls, no-more, call, KeyboardRun, last-numbers, answers, formed-named, formed-numbers, KeyboardFacts}
+use Rattle.keyboard.specs.KeyboardFacts.{KeyboardCalls, no-more, call, KeyboardRun, last-numbers, answers}
+use Rattle.keyboard.specs.KeyboardFacts.{formed-named, formed-numbers, KeyboardFacts}
 
 -- the numbers that opening gives: zeros, or a fresh machine's
 opens : (s : Settings) → named (numbers-of (opening s .machine)) ≡ opening s .machine

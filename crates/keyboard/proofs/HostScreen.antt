@@ -55,8 +55,8 @@ sendings-back x e = packed-back (step-sendable x e)
 -- the header's rule types what was sent
 shows-typed : (screen : List ℕ) (r : StepAnswer) → shows screen r ≡ typed screen (sendings-read r)
 shows-typed screen r =
-    two-ways (λ (l : List ℕ) (b : List Sending). l ++ signs-sent r ≡ typed screen (b ++ send (signs-sent r))) {t = eqb (r .backspace) 1} refl
-    (sym (typed-send _ (signs-sent r))) (sym (typed-send screen (signs-sent r)))
+    two-ways (λ (l : List ℕ) (b : List Sending). l ++ signs-sent r ≡ typed screen (b ++ send (signs-sent r)))
+    {t = eqb (r .backspace) 1} refl (sym (typed-send _ (signs-sent r))) (sym (typed-send screen (signs-sent r)))
 
 shows-all : (screen : List ℕ) (x : Machine) (es : List Event)
     → foldl shows screen (map answered-numbers (answers x es)) ≡ typed screen (along sendings-in x es)
@@ -94,7 +94,8 @@ grows-all line x (e ∷ es) =
     grows-all (grows line (answered-numbers (step x e))) (step x e .machine) es
     ∙ append-assoc line _ (signs (along items-in (step x e .machine) es))
     ∙ ap (λ (l : List ℕ). line ++ l)
-    (ap (λ (l : List ℕ). l ++ signs (along items-in (step x e .machine) es)) (signs-back (step x e .items) (step-sizes x e .at-most-2-items))
+    (ap (λ (l : List ℕ). l ++ signs (along items-in (step x e .machine) es))
+    (signs-back (step x e .items) (step-sizes x e .at-most-2-items))
     ∙ sym (signs-append (step x e .items) (along items-in (step x e .machine) es)))
 
 -- The number.

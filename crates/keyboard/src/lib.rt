@@ -15,7 +15,8 @@ ghost use Rattle.rules.specs.States.{opening};
 ghost use Rattle.preview.specs.Views.{listed};
 ghost use Rattle.deadlines.specs.Views.{asked};
 ghost use Rattle.rules.specs.Numbers.{settings-of};
-ghost use Rattle.keyboard.specs.Keyboard.{event-of, open-numbers, words-of, answer-numbers, refused-numbers, step-numbers, asked-numbers, distance-numbers};
+ghost use Rattle.keyboard.specs.Keyboard.{event-of, open-numbers, words-of, answer-numbers, refused-numbers, step-numbers};
+ghost use Rattle.keyboard.specs.Keyboard.{asked-numbers, distance-numbers};
 
 // A fresh machine, or refusal 1 and numbers that name no machine.
 #[repr(C)]
