@@ -15,6 +15,7 @@ use std::process::ExitCode;
 use trabeculon_model::arguments::{self, named};
 use trabeculon_model::drill::{WriterSlip, WRITER_SLIPS};
 use trabeculon_model::generate::{every_place, random_case, Case};
+use trabeculon_model::holding::{Holding, HOLDING};
 use trabeculon_model::log::{read_log_bytes_with, Answer};
 use trabeculon_model::model::{Slip, SLIPS};
 use trabeculon_model::overlaps::Overlaps;
@@ -35,7 +36,7 @@ fn library_read_log(log: &[u8], out: &mut [u8]) -> Answer {
 const DEFAULT_COUNT: u64 = 200_000;
 const DEFAULT_SEED: u64 = 20_010_401;
 /// The numbers of a log: not 2, since a reader opens its own state.
-const READER_NUMBERS: [u64; 8] = [0, 1, 3, 4, 5, 6, 7, 8];
+const READER_NUMBERS: [u64; 9] = [0, 1, 3, 4, 5, 6, 7, 8, 11];
 /// Bytes before and after the run, to see a write outside it.
 const GUARD: usize = 32;
 
@@ -96,17 +97,20 @@ fn compare_reader(arguments: &Arguments) -> Result<(), String> {
     fixed.print("logs damaged at every place");
 
     let mut tally = Tally::default();
-    let mut overlaps = Overlaps::default();
+    let (mut overlaps, mut holding) = (Overlaps::default(), Holding::default());
     for index in 0..arguments.count {
         let case = random_case(&mut random);
         let answer = compare(&mut random, slip, &case)
             .map_err(|what| format!("log {index} of seed {}: {what}", arguments.seed))?;
         tally.add(answer.number.into());
         overlaps.add_log(&case.log[..answer.offset as usize]);
+        holding.add_log(&case.log);
     }
     tally.print(&format!("random logs of seed {}", arguments.seed));
     overlaps.print();
+    holding.print();
     tally.complete(&READER_NUMBERS, arguments.count)?;
+    holding.complete(&HOLDING, arguments.count)?;
     overlaps.complete(arguments.count)
 }
 

@@ -42,7 +42,7 @@ extern "C" {
     fn trabeculon_reader_end(reader: FlatReader) -> PieceRead;
 }
 
-const _: () = assert!(size_of::<FlatReader>() == 96 && size_of::<PieceRead>() == 120);
+const _: () = assert!(size_of::<FlatReader>() == 104 && size_of::<PieceRead>() == 128);
 
 /// The proved library, in safe clothes. The numbers of a reader may be anything.
 fn library_read_log(log: &[u8], out: &mut [u8]) -> Answer {
@@ -67,9 +67,9 @@ fn library_end(reader: &FlatReader) -> PieceRead {
 const DEFAULT_COUNT: u64 = 200_000;
 const DEFAULT_SEED: u64 = 20_010_401;
 /// The numbers of a piece and of an end, 6 and 9 as answers that are for good.
-const NUMBERS: [u64; 10] = [0, 1, 2, 3, 4, 5, 6, 7, 8, 9];
+const NUMBERS: [u64; 11] = [0, 1, 2, 3, 4, 5, 6, 7, 8, 9, 11];
 /// Those of a log: not 2, since the reader is always one handed back, and not 9.
-const LOG_NUMBERS: [u64; 8] = [0, 1, 3, 4, 5, 6, 7, 8];
+const LOG_NUMBERS: [u64; 9] = [0, 1, 3, 4, 5, 6, 7, 8, 11];
 /// How many bytes of the begun record the given readers had, so many or more.
 const BEGUN: [u64; 15] = [0, 1, 2, 3, 4, 5, 6, 7, 8, 9, 10, 11, 12, 13, 14];
 /// For so many random calls one random log is compared.

@@ -90,8 +90,9 @@ fn logs_around_the_buffer(random: &mut Random) -> Vec<Vec<u8>> {
     logs
 }
 
-/// Typed logs of some MiB; and one of which every event gives a mark or a character, so
-/// that its line is as long as a line can be.
+/// Typed logs of some MiB; and one of which every event gives a mark, and then every
+/// second one a character, so that its line is as long as a line can be. (A key goes up
+/// before it is pressed again, and gives nothing, since the next one is down by then.)
 fn long_logs(random: &mut Random) -> Vec<Vec<u8>> {
     let mut logs: Vec<_> = [MIB, 2 * MIB, 3 * MIB + 5]
         .map(|length| {
@@ -100,8 +101,11 @@ fn long_logs(random: &mut Random) -> Vec<Vec<u8>> {
         })
         .into();
     let mark = |stamp: u64| Event { kind: 3, key: stamp as u8 % 2, stamp };
-    let character = |stamp: u64| Event { kind: 1, key: (stamp % 31) as u8, stamp };
-    let dense = (0..20_000).map(mark).chain((20_000..40_000).map(character));
+    let character = |stamp: u64| {
+        let [down, up] = [stamp, stamp + 30].map(|turn| (turn % 31) as u8);
+        [Event { kind: 1, key: down, stamp }, Event { kind: 2, key: up, stamp }]
+    };
+    let dense = (0..20_000).map(mark).chain((20_000..40_000).flat_map(character));
     logs.push(log_of(SOLO, &dense.collect::<Vec<_>>()));
     logs
 }
@@ -110,9 +114,12 @@ fn long_logs(random: &mut Random) -> Vec<Vec<u8>> {
 fn far_refusals(random: &mut Random) -> Vec<Vec<u8>> {
     let typed = typed_log(random, SOLO, MIB);
     let event = |kind, key, stamp| event_record(Event { kind, key, stamp });
+    // Of so many keys one is a seventh, whatever the typist still holds.
+    let many = (0..8).flat_map(|key| event(1, key, LARGEST_STAMP)).collect();
     // The body of the last one but one ends in the next fill of the buffer.
     let longest = [vec![9, 255, 255], vec![2; 65_535]].concat();
     let refused = [
+        many,
         event(1, 31, LARGEST_STAMP),
         event(1, 21, LARGEST_STAMP + 1),
         event(1, 21, 0),

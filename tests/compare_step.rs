@@ -14,12 +14,15 @@ use std::mem::size_of;
 use std::process::ExitCode;
 
 use trabeculon_model::arguments::{self, named};
-use trabeculon_model::generate::{boundary_settings, next_event, right_settings, wrong_settings};
+use trabeculon_model::generate::{
+    boundary_settings, next_event, right_settings, wrong_settings, Hands,
+};
+use trabeculon_model::holding::{Holding, HOLDING, UP_OF_M_ALONE};
 use trabeculon_model::live::{
-    distance, open, step_numbers, Asked, Flat, Opened, Stepped, Wrong, LIVE_SLIPS,
+    at, distance, open, step_numbers, Asked, Flat, Opened, Stamp, Stepped, Wrong, LIVE_SLIPS,
 };
 use trabeculon_model::log::{word, RawSettings};
-use trabeculon_model::model::{shown, Event, KEYS, LARGEST_STAMP, SLIPS};
+use trabeculon_model::model::{shown, Event, LARGEST_STAMP, SLIPS};
 use trabeculon_model::overlaps::Overlaps;
 use trabeculon_model::random::Random;
 use trabeculon_model::states::{every_state, random_event, random_stamp, random_state};
@@ -27,12 +30,13 @@ use trabeculon_model::tally::Tally;
 
 extern "C" {
     fn trabeculon_open(t: u16, j: u8, l: u8, solo: u8) -> Opened;
-    fn trabeculon_step(machine: Flat, kind: u8, key: u8, stamp: u64) -> Stepped;
-    fn trabeculon_distance(machine: Flat, stamp: u64) -> Asked;
+    fn trabeculon_step(machine: Flat, kind: u8, key: u8, stamp: Stamp) -> Stepped;
+    fn trabeculon_distance(machine: Flat, stamp: Stamp) -> Asked;
 }
 
-const _: () = assert!(size_of::<Flat>() == 40 && size_of::<Opened>() == 48);
-const _: () = assert!(size_of::<Stepped>() == 64 && size_of::<Asked>() == 16);
+const _: () = assert!(size_of::<Stamp>() == 8 && size_of::<Asked>() == 16);
+const _: () = assert!(size_of::<Flat>() == 48 && size_of::<Opened>() == 56);
+const _: () = assert!(size_of::<Stepped>() == 72);
 
 /// The proved library, in safe clothes: numbers go in and out, and all of them may
 /// be anything.
@@ -41,11 +45,11 @@ fn library_open((t, j, l, solo): RawSettings) -> Opened {
 }
 
 fn library_step(flat: &Flat, event: Event) -> Stepped {
-    unsafe { trabeculon_step(*flat, event.kind, event.key, event.stamp) }
+    unsafe { trabeculon_step(*flat, event.kind, event.key, at(event.stamp)) }
 }
 
 fn library_distance(flat: &Flat, stamp: u64) -> Asked {
-    unsafe { trabeculon_distance(*flat, stamp) }
+    unsafe { trabeculon_distance(*flat, at(stamp)) }
 }
 
 const DEFAULT_COUNT: u64 = 200_000;
@@ -55,10 +59,10 @@ const TRIES: usize = 8;
 /// For so many random states one walk.
 const STATES_FOR_A_WALK: u64 = 20;
 /// The numbers of a step, and those of a distance.
-const STEP_NUMBERS: [u64; 5] = [0, 2, 3, 4, 5];
+const STEP_NUMBERS: [u64; 6] = [0, 2, 3, 4, 5, 11];
 const DISTANCE_NUMBERS: [u64; 4] = [0, 2, 4, 5];
 /// The same in a walk: not 2, since the machine is always one handed back.
-const WALK_STEP_NUMBERS: [u64; 4] = [0, 3, 4, 5];
+const WALK_STEP_NUMBERS: [u64; 5] = [0, 3, 4, 5, 11];
 const WALK_DISTANCE_NUMBERS: [u64; 3] = [0, 4, 5];
 
 type Arguments = arguments::Arguments<Wrong>;
@@ -127,6 +131,7 @@ struct Compared {
     /// After the accepted steps.
     after: Tally<&'static str>,
     overlaps: Overlaps,
+    holding: Holding,
     distances: Tally,
     waits: Tally<&'static str>,
 }
@@ -145,6 +150,7 @@ impl Compared {
         }
         if let Ok(machine) = flat.machine(Wrong::default()) {
             self.overlaps.add(&machine, event);
+            self.holding.add(&machine, event);
         }
         Ok(library)
     }
@@ -168,6 +174,7 @@ impl Compared {
         println!("  states before{}", self.before.times());
         println!("  states after the accepted ones{}", self.after.times());
         self.overlaps.print();
+        self.holding.print();
         self.distances.print(&format!("distances {what}"));
         println!("  answered{}", self.waits.times());
     }
@@ -228,6 +235,8 @@ fn compare_random(arguments: &Arguments) -> Result<(), String> {
     }
     compared.print(&format!("from random states of seed {}", arguments.seed));
     compared.overlaps.complete(arguments.count)?;
+    compared.holding.complete(&HOLDING, arguments.count)?;
+    compared.holding.complete(&[UP_OF_M_ALONE], arguments.count)?;
     compared.complete(&STEP_NUMBERS, &DISTANCE_NUMBERS, arguments.count)
 }
 
@@ -258,6 +267,7 @@ fn compare_walks(arguments: &Arguments) -> Result<(), String> {
     }
     compared.print(&format!("in {walks} walks of seed {}", arguments.seed));
     compared.overlaps.complete(walks)?;
+    compared.holding.complete(&HOLDING, arguments.count)?;
     compared.complete(&WALK_STEP_NUMBERS, &WALK_DISTANCE_NUMBERS, arguments.count)
 }
 
@@ -272,7 +282,7 @@ fn compare_walk(random: &mut Random, wrong: Wrong, compared: &mut Compared) -> R
     let raw = right_settings(random);
     let opened = compare_open(wrong, raw)?;
     let mut host = Host { machine: opened.machine, line: vec![], screen: vec![] };
-    let keys = [0; 3].map(|_| random.below(KEYS.into()) as u8);
+    let hands = Hands::random(random);
     let count = random.pick(&[10, 30, 30, 60, 200]);
     let mut events = vec![];
     for _ in 0..random.place(count) {
@@ -280,7 +290,7 @@ fn compare_walk(random: &mut Random, wrong: Wrong, compared: &mut Compared) -> R
         let machine = machine.map_err(|_| format!("no machine was handed back: {host:?}"))?;
         let event = match thumb_release(random, &host.machine) {
             Some(event) => event,
-            None => next_event(random, &machine, &keys, true),
+            None => next_event(random, &machine, &hands, true),
         };
         events.push((event.kind, event.key, event.stamp));
         walk_on(random, wrong, &mut host, event, compared).map_err(|what| {
@@ -292,7 +302,7 @@ fn compare_walk(random: &mut Random, wrong: Wrong, compared: &mut Compared) -> R
 
 /// Now and then in S5 its thumb goes up soon, which is what leads to S6.
 fn thumb_release(random: &mut Random, flat: &Flat) -> Option<Event> {
-    let stamp = flat.last + random.below(20);
+    let stamp = flat.last.ms + random.below(20);
     let soon = flat.state == 5 && stamp <= LARGEST_STAMP && random.once_in(4);
     soon.then_some(Event { kind: 4, key: flat.thumb, stamp })
 }
@@ -307,7 +317,7 @@ fn walk_on(
 ) -> Result<(), String> {
     let stepped = compared.step(wrong, &host.machine, event)?;
     host.take(&stepped)?;
-    let Flat { last, .. } = host.machine;
+    let last = host.machine.last.ms;
     let now = compared.distance(wrong, &host.machine, last)?;
     let due = last.saturating_add_signed(now.milliseconds);
     let far = last.saturating_add(random.below(150_000));

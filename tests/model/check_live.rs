@@ -1,10 +1,12 @@
 //! Request 3/12 tried on the model: the distance, its refusals and that it says when
 //! a tick commits; the machine as numbers, and the states that the tests make.
 
-use trabeculon_model::live::{distance, open, step_numbers, Asked, Flat, Opened, Stepped, Wrong};
+use trabeculon_model::live::{
+    at as stamp, distance, open, step_numbers, Asked, Flat, Opened, Stepped, Wrong,
+};
 use trabeculon_model::model::{step, Event, Machine, Resting, Settings, Thumb, LARGEST_STAMP};
 use trabeculon_model::random::Random;
-use trabeculon_model::states::{broken_state, nameless_state, random_stamp, right_state};
+use trabeculon_model::states::{bit, broken_state, nameless_state, random_stamp, right_state};
 
 use crate::{expect, settings};
 
@@ -19,8 +21,9 @@ pub fn check_all() -> Result<(), String> {
 
 // ---- The distance ----
 
+/// No key is held, which the distance does not ask.
 fn at(settings: Settings, last: u64, resting: Resting) -> Machine {
-    Machine { settings, resting, last }
+    Machine { resting, last, ..Machine::fresh(settings) }
 }
 
 /// Every state, at T=100, J=L=50: before its deadline, at it and behind it.
@@ -152,7 +155,8 @@ fn check_numbers() -> Result<(), String> {
         let right = Stepped { machine: flat, number, ..Stepped::default() };
         expect(&format!("{event:?} in {flat:?}"), got, right)
     };
-    let waiting = Flat { last: 50, state: 2, key: 30, m: 50, ..fresh };
+    let at_50 = stamp(50);
+    let waiting = Flat { last: at_50, state: 2, key: 30, m: at_50, held: bit(30), ..fresh };
     refused(waiting, (1, 31, 49), 3)?;
     refused(waiting, (1, 21, LARGEST_STAMP + 1), 4)?;
     refused(waiting, (6, 0, 49), 5)?;
@@ -166,30 +170,35 @@ fn check_numbers() -> Result<(), String> {
 }
 
 /// S2 with one number that is too much, and numbers that are no state.
-fn nameless(waiting: Flat) -> [Flat; 8] {
+fn nameless(waiting: Flat) -> [Flat; 10] {
+    let at_50 = stamp(50);
     [
         Flat::default(),
         Flat { state: 7, ..waiting },
         Flat { state: 255, ..waiting },
-        Flat { o: 1, ..waiting },
-        Flat { r: u64::MAX, ..waiting },
+        Flat { o: stamp(1), ..waiting },
+        Flat { r: stamp(u64::MAX), ..waiting },
         Flat { thumb: 1, ..waiting },
-        Flat { state: 4, o: 50, thumb: 2, ..waiting },
-        Flat { state: 5, o: 50, r: 50, ..waiting },
+        Flat { state: 4, o: at_50, thumb: 2, ..waiting },
+        Flat { state: 5, o: at_50, r: at_50, ..waiting },
+        Flat { held: bit(30) | 1 << 32, ..waiting },
+        Flat { held: 1 << 63, ..waiting },
     ]
 }
 
 /// Request 4/12's keystrokes, every number of every answer.
 fn check_slower(fresh: Flat) -> Result<(), String> {
     let (ka, ga, none) = (0x304b, 0x304c, Stepped::default());
-    let s2 = Flat { state: 2, key: 21, ..fresh };
-    let s4 = Flat { state: 4, thumb: 1, o: 500, last: 500, ..s2 };
-    let s3 = Flat { state: 3, thumb: 1, o: 500, last: 899, ..fresh };
+    let at_500 = stamp(500);
+    let s2 = Flat { state: 2, key: 21, held: bit(21), ..fresh };
+    let s4 = Flat { state: 4, thumb: 1, o: at_500, last: at_500, ..s2 };
+    let s3 = Flat { state: 3, thumb: 1, o: at_500, last: stamp(899), ..fresh };
     let asked = |milliseconds| Asked { number: 0, deadline: 1, milliseconds };
     let down = ((1, 21, 0), Stepped { machine: s2, sent_first: ka, ..none }, asked(1_000));
     let thumb = ((3, 1, 500), Stepped { machine: s4, ..none }, asked(500));
     let plain = Stepped { machine: s3, items: 1, first: ka, ..none };
-    let chord = Stepped { machine: Flat { last: 900, ..fresh }, items: 1, first: ga, ..none };
+    let end = Flat { last: stamp(900), ..fresh };
+    let chord = Stepped { machine: end, items: 1, first: ga, ..none };
     let chord = Stepped { backspace: 1, sent_first: ga, ..chord };
     let up = |stamp, stepped| ((2, 21, stamp), stepped, Asked::default());
     check_lines("4/12", fresh, &[down, thumb, up(899, plain)])?;
@@ -200,9 +209,12 @@ fn check_slower(fresh: Flat) -> Result<(), String> {
 fn check_p9(fresh: Flat) -> Result<(), String> {
     let (ka, ga, mark) = (0x304b, 0x304c, 2);
     let none = Stepped::default();
+    let [at_40, at_60, at_79, at_80] = [40, 60, 79, 80].map(stamp);
     let s3 = Flat { state: 3, thumb: 1, ..fresh };
-    let s5 = Flat { state: 5, key: 21, m: 40, last: 40, ..s3 };
-    let s6 = Flat { state: 6, r: 60, last: 60, ..s5 };
+    let s5 = Flat { state: 5, key: 21, m: at_40, last: at_40, held: bit(21), ..s3 };
+    let s6 = Flat { state: 6, r: at_60, last: at_60, ..s5 };
+    // The key is held still when its character is committed.
+    let s1 = Flat { last: at_80, held: bit(21), ..fresh };
     let end = Stepped { items: 2, first: mark, second: ka, backspace: 1, ..none };
     let end = Stepped { sent_first: mark, sent_second: ka, ..end };
     let asked = |milliseconds| Asked { number: 0, deadline: 1, milliseconds };
@@ -210,8 +222,8 @@ fn check_p9(fresh: Flat) -> Result<(), String> {
         ((3, 1, 0), Stepped { machine: s3, ..none }, asked(100)),
         ((1, 21, 40), Stepped { machine: s5, sent_first: ga, ..none }, asked(40)),
         ((4, 1, 60), Stepped { machine: s6, ..none }, asked(20)),
-        ((6, 0, 79), Stepped { machine: Flat { last: 79, ..s6 }, ..none }, asked(1)),
-        ((6, 0, 80), Stepped { machine: Flat { last: 80, ..fresh }, ..end }, Asked::default()),
+        ((6, 0, 79), Stepped { machine: Flat { last: at_79, ..s6 }, ..none }, asked(1)),
+        ((6, 0, 80), Stepped { machine: s1, ..end }, Asked::default()),
     ];
     check_lines("P9", fresh, &lines)
 }

@@ -1,14 +1,16 @@
 //! Request 5/12 tried on the model: however a worked log is cut, its pieces say what
 //! the whole log says; and every sentence of the request by an example.
 
-use trabeculon_model::live::Flat;
+use trabeculon_model::live::{at, Flat};
 use trabeculon_model::log::{log_of, read_log, Answer, RawSettings};
 use trabeculon_model::pieces::{
     end_numbers, fresh_numbers, piece_numbers, FlatReader, Reader, Wrong, LONGEST_LOG,
 };
 use trabeculon_model::random::Random;
 use trabeculon_model::readers::{random_call, random_cut};
+use trabeculon_model::states::bit;
 
+use crate::check_held::SEVENTH;
 use crate::worked::EXAMPLES;
 use crate::{answer, expect, keystrokes, SAIGAI};
 
@@ -24,11 +26,12 @@ pub fn check_all() -> Result<(), String> {
 
 // ---- However a log is cut ----
 
-/// Every worked log; 01's own also cut short and damaged.
+/// Every worked log; 01's own also cut short and damaged; one with a seventh finger.
 fn worked_logs() -> Result<Vec<Vec<u8>>, String> {
     let mut logs = vec![vec![], vec![9, 255, 255], vec![9, 0, 0]];
     let usual: RawSettings = (100, 50, 50, 0);
     logs.push(log_of(usual, &keystrokes(SAIGAI)?));
+    logs.push(log_of(usual, &keystrokes(SEVENTH)?));
     for example in &EXAMPLES {
         let (t, j, l, solo) = example.settings;
         let text: String = example.lines.iter().map(|line| format!("{} ", line.0)).collect();
@@ -157,7 +160,8 @@ fn check_numbers() -> Result<(), String> {
     expect("fresh", fresh, FlatReader::default())?;
     let log = log_of((100, 50, 50, 0), &keystrokes("21@7 21up@50")?);
     let opened = Flat { t: 100, j: 50, l: 50, state: 1, ..Flat::default() };
-    let waiting = Flat { state: 2, key: 21, m: 7, last: 7, ..opened };
+    let waiting = Flat { state: 2, key: 21, m: at(7), last: at(7), held: bit(21), ..opened };
+    let ended = Flat { last: at(50), ..opened };
     let begun = FlatReader { machine: waiting, offset: 21, ..FlatReader::default() };
     let after = [
         (0, fresh),
@@ -170,7 +174,7 @@ fn check_numbers() -> Result<(), String> {
         (21, begun),
         (26, FlatReader { count: 5, header: 0x02_000a, front: 0x0215, ..begun }),
         (33, FlatReader { count: 12, header: 0x02_000a, front: 0x0215, ..begun }),
-        (34, FlatReader { machine: Flat { last: 50, ..opened }, offset: 34, words: 1, ..fresh }),
+        (34, FlatReader { machine: ended, offset: 34, words: 1, ..fresh }),
     ];
     for (length, right) in after {
         let got = piece_numbers(RIGHT, &fresh, &log[..length], &mut [0; 9]);

@@ -3,14 +3,15 @@
 
 use crate::generate::{next_stamp, random_events};
 use crate::model::{
-    shown, sign, step, Event, Item, Machine, Sending, Settings, Sign, Step, LARGEST_STAMP,
+    shown, sign, step, Event, Item, Machine, Sending, Settings, Sign, Step, KEYS, LARGEST_STAMP,
+    MOST_HELD,
 };
 use crate::random::Random;
 
 /// A sequence so far: the machine and all that came of it.
 struct Run {
     machine: Machine,
-    /// Key and stamp of every accepted press.
+    /// Key and stamp of every accepted down of a key not held (7/12).
     presses: Vec<(u8, u64)>,
     items: Vec<Item>,
     line: Vec<Sign>,
@@ -26,11 +27,16 @@ impl Run {
     /// Takes one event and checks all that must hold then.
     fn take(&mut self, event: Event) -> Result<(), String> {
         match step(&self.machine, event) {
-            Err(number) => expect((3..=5).contains(&number), "a run is refused 3, 4 or 5 only")?,
+            Err(number) => {
+                expect([3, 4, 5, 11].contains(&number), "a run is refused 3, 4, 5 or 11 only")?;
+            }
             Ok(step) => self.add(event, step)?,
         }
         self.keys_in_order()?;
         self.within_longest_wait()?;
+        let held = self.machine.held;
+        expect(self.machine.waiting().is_none_or(|key| held.has(key)), "a waiting key is held")?;
+        expect(held.count() <= MOST_HELD, "at most 6 keys are held")?;
         let seen = [&self.line[..], shown(&self.machine.resting).as_slice()].concat();
         expect(self.screen == seen, "the screen is the line and what is shown")
     }
@@ -40,7 +46,7 @@ impl Run {
         expect(step.sendings.len() <= 4, "at most 4 sendings a step")?;
         expect(step.machine.well_formed(), "a step leaves a well-formed state")?;
         self.send(&step.sendings)?;
-        if event.kind == 1 {
+        if event.kind == 1 && !self.machine.held.has(event.key) {
             self.presses.push((event.key, event.stamp));
         }
         self.line.extend(step.items.iter().filter_map(sign));
@@ -156,7 +162,7 @@ fn with_ticks(random: &mut Random, settings: Settings, events: &[Event]) -> Vec<
     for event in events {
         for _ in 0..random.below(4) {
             let extra = match random.below(4) {
-                0 => Event { kind: 1, key: 31, stamp: event.stamp },
+                0 => Event { kind: 1, key: refused_key(&machine), stamp: event.stamp },
                 _ => tick(next_stamp(random, &machine).min(event.stamp)),
             };
             push(&mut machine, &mut full, extra);
@@ -164,6 +170,12 @@ fn with_ticks(random: &mut Random, settings: Settings, events: &[Event]) -> Vec<
         push(&mut machine, &mut full, *event);
     }
     full
+}
+
+/// A key whose press is refused: a new one while 6 are held, and else key 31.
+fn refused_key(machine: &Machine) -> u8 {
+    let many = machine.held.count() == MOST_HELD;
+    (0..KEYS).find(|key| many && !machine.held.has(*key)).unwrap_or(KEYS)
 }
 
 /// Adds an event to a sequence and takes it with the sequence's machine.

@@ -4,8 +4,8 @@
 
 use crate::log::{event_record, log_of, read_log, settings_record, RawSettings};
 use crate::model::{
-    step, Event, Machine, Resting, Settings, Thumb, KEYS, LARGEST_STAMP, LEAST_T, MOST_T,
-    SHORT_OVERLAP,
+    step, Event, Machine, Resting, Settings, Thumb, KEYS, LARGEST_STAMP, LEAST_T, MOST_HELD,
+    MOST_T, SHORT_OVERLAP,
 };
 use crate::notation;
 use crate::random::Random;
@@ -100,10 +100,10 @@ pub fn random_events(
     count: usize,
     refusals: bool,
 ) -> Vec<Event> {
-    let keys = [0; 3].map(|_| random.below(KEYS.into()) as u8);
+    let hands = Hands::random(random);
     let mut events = Vec::with_capacity(count);
     for _ in 0..count {
-        let event = next_event(random, &machine, &keys, refusals);
+        let event = next_event(random, &machine, &hands, refusals);
         if let Ok(step) = step(&machine, event) {
             machine = step.machine;
         }
@@ -112,29 +112,55 @@ pub fn random_events(
     events
 }
 
-/// An event for the machine: one that it accepts or, if asked for and only now and
-/// then, one that it refuses.
-pub fn next_event(random: &mut Random, machine: &Machine, keys: &[u8], refusals: bool) -> Event {
-    if refusals && random.once_in(10) {
-        refused_event(random, machine)
-    } else {
-        accepted_event(random, machine, keys)
+/// Whose hands are on the keys: which keys they mostly press, and how many more than
+/// the one that waits they hold before they let go of one.
+pub struct Hands {
+    keys: Vec<u8>,
+    fingers: usize,
+}
+
+impl Hands {
+    /// Few keys, so that they are often pressed again; or many, as where a keyboard
+    /// ghosts, and more fingers than may be held.
+    pub fn random(random: &mut Random) -> Hands {
+        let (keys, fingers) = random.pick(&[(3, 0), (3, 1), (3, 2), (9, 7)]);
+        Hands { keys: (0..keys).map(|_| random.below(KEYS.into()) as u8).collect(), fingers }
+    }
+
+    fn ghosts(&self) -> bool {
+        self.fingers > MOST_HELD as usize
     }
 }
 
-/// Few keys, so that they are often repeated; both thumbs.
-fn accepted_event(random: &mut Random, machine: &Machine, keys: &[u8]) -> Event {
+/// An event for the machine: one that it accepts or, if asked for and only now and
+/// then, one that it refuses.
+pub fn next_event(random: &mut Random, machine: &Machine, hands: &Hands, refusals: bool) -> Event {
+    let full = machine.held.count() == MOST_HELD;
+    // Ghosts are to come as far as a seventh key.
+    let rare = if full { 3 } else { 10 + 30 * u64::from(hands.ghosts()) };
+    if refusals && random.once_in(rare) {
+        refused_event(random, machine)
+    } else {
+        accepted_event(random, machine, hands)
+    }
+}
+
+/// Character keys, both thumbs, the function key and ticks.
+fn accepted_event(random: &mut Random, machine: &Machine, hands: &Hands) -> Event {
     if random.once_in(4) {
-        if let Some(event) = turning_event(random, machine, keys) {
+        if let Some(event) = turning_event(random, machine, hands) {
             return event;
         }
     }
-    let any = random.below(KEYS.into()) as u8;
-    let key = if random.once_in(8) { any } else { random.pick(keys) };
+    if let Some(event) = held_event(random, machine, hands) {
+        return event;
+    }
     let thumb = random.pick(&[0, 1]);
     let (kind, key) = match random.below(20) {
-        0..=5 => (1, key),
-        6..=9 => (2, machine.waiting().filter(|_| !random.once_in(4)).unwrap_or(key)),
+        0..=5 => (1, pressed(random, machine, hands)),
+        6..=9 => {
+            (2, machine.waiting().filter(|_| !random.once_in(4)).unwrap_or(any(random, hands)))
+        }
         10..=14 => (3, thumb),
         15..=16 => (4, thumb),
         17 => (5, 0),
@@ -143,10 +169,57 @@ fn accepted_event(random: &mut Random, machine: &Machine, keys: &[u8]) -> Event 
     Event { kind, key, stamp: next_stamp(random, machine) }
 }
 
+/// What comes of keys that are held besides the one that waits: one of them goes up,
+/// where the hands hold no more; or further ones go down with the last, as ghosts do.
+fn held_event(random: &mut Random, machine: &Machine, hands: &Hands) -> Option<Event> {
+    let besides: Vec<u8> =
+        machine.held.keys().filter(|key| machine.waiting() != Some(*key)).collect();
+    if besides.len() > hands.fingers && random.once_in(2) {
+        let stamp = next_stamp(random, machine);
+        return Some(Event { kind: 2, key: random.pick(&besides), stamp });
+    }
+    let ghosts = hands.ghosts() && machine.held.count() > 0 && random.once_in(3);
+    let key = new_key(random, machine, hands).filter(|_| ghosts)?;
+    Some(Event { kind: 1, key, stamp: machine.last })
+}
+
+/// One of the hands' keys, or any other.
+fn any(random: &mut Random, hands: &Hands) -> u8 {
+    let other = random.below(KEYS.into()) as u8;
+    if random.once_in(8) {
+        other
+    } else {
+        random.pick(&hands.keys)
+    }
+}
+
+/// A key that is not held; none if so many are held that it would be refused.
+fn new_key(random: &mut Random, machine: &Machine, hands: &Hands) -> Option<u8> {
+    let (key, other) = (any(random, hands), free_key(random, machine));
+    let new = if machine.held.has(key) { other } else { key };
+    (machine.held.count() < MOST_HELD).then_some(new)
+}
+
+/// Any key that is not held; at most 6 of 31 are.
+fn free_key(random: &mut Random, machine: &Machine) -> u8 {
+    let free: Vec<u8> = (0..KEYS).filter(|key| !machine.held.has(*key)).collect();
+    random.pick(&free)
+}
+
+/// A key to press: a new one or, now and then and where no new one may come, one that
+/// is held already, which is a repeat.
+fn pressed(random: &mut Random, machine: &Machine, hands: &Hands) -> u8 {
+    let held: Vec<u8> = machine.held.keys().collect();
+    match new_key(random, machine, hands) {
+        Some(new) if held.is_empty() || !random.once_in(5) => new,
+        _ => random.pick(&held),
+    }
+}
+
 /// An event at or beside the stamp where its own rule turns: equal gaps in S4
 /// and S5, 400 ms in both, and in S5 the longest wait that leads on to S4. In S2
 /// and S3 one that leads on to a long wait, in which 400 ms may come up.
-fn turning_event(random: &mut Random, machine: &Machine, keys: &[u8]) -> Option<Event> {
+fn turning_event(random: &mut Random, machine: &Machine, hands: &Hands) -> Option<Event> {
     let deadline = due(machine).unwrap_or(machine.last);
     let (kind, key, stamp) = match machine.resting {
         Resting::S1 | Resting::S6 { .. } => return None,
@@ -155,9 +228,11 @@ fn turning_event(random: &mut Random, machine: &Machine, keys: &[u8]) -> Option<
         }
         Resting::S3 { o, .. } => {
             let wait = (o + machine.settings.b()).saturating_sub(random.between(2, 50));
-            (1, random.pick(keys), wait)
+            (1, new_key(random, machine, hands)?, wait)
         }
-        Resting::S4 { m, o, .. } if random.once_in(2) => (1, random.pick(keys), o + (o - m)),
+        Resting::S4 { m, o, .. } if random.once_in(2) => {
+            (1, new_key(random, machine, hands)?, o + (o - m))
+        }
         Resting::S4 { key, o, .. } => (2, key, o + SHORT_OVERLAP),
         Resting::S5 { m, thumb, .. } if random.once_in(2) => {
             (4, u8::from(thumb == Thumb::Right), m + SHORT_OVERLAP)
@@ -198,9 +273,15 @@ pub fn next_stamp(random: &mut Random, machine: &Machine) -> u64 {
     stamp.clamp(last, LARGEST_STAMP)
 }
 
-/// An event that is refused 3, 4 or 5, sometimes for two reasons at once.
+/// An event that is refused 3, 4, 5 or, while so many keys are held, 11; sometimes for
+/// two reasons at once.
 fn refused_event(random: &mut Random, machine: &Machine) -> Event {
-    let event = accepted_event(random, machine, &[0, 30]);
+    let hands = Hands { keys: vec![0, 30], fingers: 2 };
+    let event = match seventh(random, machine) {
+        Some(event) if random.once_in(2) => return event,
+        Some(event) => event,
+        None => accepted_event(random, machine, &hands),
+    };
     let early = machine.last.saturating_sub(random.pick(&[1, 1, 256]));
     let beyond = random.pick(&[LARGEST_STAMP + 1, LARGEST_STAMP + 256, u64::MAX]);
     let (kind, key) = forbidden(random);
@@ -210,6 +291,12 @@ fn refused_event(random: &mut Random, machine: &Machine) -> Event {
         3 => Event { stamp: beyond, ..event },
         _ => Event { stamp: early, ..event },
     }
+}
+
+/// A press of a new key while 6 are held; none while there are fewer.
+fn seventh(random: &mut Random, machine: &Machine) -> Option<Event> {
+    let (key, stamp) = (free_key(random, machine), next_stamp(random, machine));
+    (machine.held.count() == MOST_HELD).then_some(Event { kind: 1, key, stamp })
 }
 
 /// A kind and key that are not allowed.
@@ -302,23 +389,30 @@ fn random_room(random: &mut Random, log: &[u8]) -> usize {
 // ---- Damage at every place ----
 
 /// Logs that every damage is tried on: 01's own, one through all states, one with
-/// steps of two words, and one of slower hands with overlaps of 399 and 400 ms in
-/// S4 and S5.
-const BASES: [(RawSettings, &str); 4] = [
+/// steps of two words, one of slower hands with overlaps of 399 and 400 ms in S4 and
+/// S5, one of held keys (repeats, ups that come alone, doubled letters, a function
+/// key), and one of six keys held, in which a seventh is pressed.
+const BASES: [(RawSettings, &str); 6] = [
     (
         (100, 50, 50, 0),
         "24@0 24up@60 18@100 18up@150 21@200 R@230 21up@270 Rup@280 18@300 tick@400",
     ),
     (
         (100, 50, 50, 1),
-        "R@0 21@40 Rup@60 L@70 24@80 R@90 24up@95 0@300 R@310 0@340 F@345 L@350 R@360 tick@470",
+        "R@0 21@40 Rup@60 L@70 24@80 R@90 24up@95 0@300 R@310 10@340 F@345 L@350 R@360 tick@470",
     ),
     ((100, 50, 50, 1), "R@0 21@40 Rup@60 tick@80 L@100 24@140 Lup@160 F@170 30@180"),
     (
         (1_000, 50, 50, 1),
         "21@0 R@500 21up@899 Rup@950 21@1000 R@1500 21up@1900 Rup@1950 \
-         L@2000 24@2500 Lup@2899 tick@3298 L@4000 24@4500 Lup@4900 18@5000",
+         L@2000 24@2500 Lup@2899 tick@3298 24up@3300 L@4000 24@4500 Lup@4900 18@5000",
     ),
+    (
+        (100, 50, 50, 1),
+        "21up@0 21@10 21@60 R@70 21@80 24up@85 21up@90 Rup@95 21@100 21up@110 21@120 21@220 \
+         F@230 21@240",
+    ),
+    ((100, 50, 50, 0), "0@0 1@10 2@20 3@30 4@40 24@50 24@60 4up@70 21@80 L@90 21@95 5@300"),
 ];
 
 pub fn base_logs() -> impl Iterator<Item = Vec<u8>> {
@@ -391,9 +485,12 @@ pub fn boundary_settings() -> impl Iterator<Item = RawSettings> {
     second.flat_map(|(t, j, l)| [0, 1, 2, 255].map(|solo| (t, j, l, solo)))
 }
 
-/// Every kind with every key, at stamps on and beside the bounds.
+/// Every kind with every key, at stamps on and beside the bounds; while one key is
+/// held, and while six are, with room for the words of what is late and without.
 fn every_kind_and_key<E>(visit: Visit<E>) -> Result<(), E> {
-    let opened = log_of((100, 50, 50, 1), &[Event { kind: 1, key: 21, stamp: 7 }]);
+    let down = |key| Event { kind: 1, key, stamp: 7 };
+    let one = log_of((100, 50, 50, 1), &[down(21)]);
+    let six = log_of((100, 50, 50, 1), &[0, 1, 2, 3, 30, 21].map(down));
     let stamps = [6, 7, 106, 107, LARGEST_STAMP, LARGEST_STAMP + 1, u64::MAX];
     for (index, (kind, key)) in pairs_of_bytes().enumerate() {
         // All stamps where kind and key are near the allowed ones, one elsewhere.
@@ -401,7 +498,11 @@ fn every_kind_and_key<E>(visit: Visit<E>) -> Result<(), E> {
         let other = [stamps[index % stamps.len()]];
         for stamp in if near { &stamps[..] } else { &other[..] } {
             let record = event_record(Event { kind, key, stamp: *stamp });
-            visit(Case { log: [&opened[..], &record].concat(), room: 9 })?;
+            visit(Case { log: [&one[..], &record].concat(), room: 9 })?;
+            if near {
+                visit(Case { log: [&six[..], &record].concat(), room: 12 })?;
+                visit(Case { log: [&six[..], &record].concat(), room: 10 })?;
+            }
         }
     }
     Ok(())

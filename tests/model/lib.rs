@@ -1,10 +1,11 @@
-//! An independent model of document 01 and of requests 1/12 to 5/12 of document
-//! 02, and what the tests make with it.
+//! An independent model of document 01 and of requests 1/12 to 5/12 and 7/12 of
+//! document 02, and what the tests make with it.
 
 pub mod arguments;
 pub mod demand3;
 pub mod drill;
 pub mod generate;
+pub mod holding;
 pub mod lines;
 pub mod live;
 pub mod log;

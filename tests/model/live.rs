@@ -1,10 +1,11 @@
 //! The C face for a live keyboard: opening, stepping and asking (request 3/12) a
-//! machine that goes through the host's hands as plain numbers. On top of the
-//! model of the machine; the numbers are those that the header names.
+//! machine that goes through the host's hands as numbers, its stamps in a type of
+//! their own. On top of the model of the machine; the numbers are those that the
+//! header names.
 
 use crate::log::{word, RawSettings};
 use crate::model::{
-    sign, step, thumb, Event, Machine, Resting, Sending, Settings, Slip, Thumb, LARGEST_STAMP,
+    sign, step, thumb, Event, Held, Machine, Resting, Sending, Settings, Slip, Thumb, LARGEST_STAMP,
 };
 
 /// A wrong rule put into this face on purpose, to show that a comparison can fail.
@@ -26,13 +27,15 @@ pub enum LiveSlip {
     StampFirst,
     /// Numbers that the state doesn't use may be anything.
     LeftOverIgnored,
+    /// Of the held set only the low 32 bits are looked at.
+    HeldCutShort,
     /// A refused step hands back no machine.
     RefusedCleared,
     /// An empty face is no item.
     EmptyFaceNoItem,
 }
 
-pub const LIVE_SLIPS: [(&str, LiveSlip); 10] = [
+pub const LIVE_SLIPS: [(&str, LiveSlip); 11] = [
     ("sign-turned", LiveSlip::SignTurned),
     ("off-by-one", LiveSlip::OffByOne),
     ("overdue-as-zero", LiveSlip::OverdueAsZero),
@@ -41,6 +44,7 @@ pub const LIVE_SLIPS: [(&str, LiveSlip); 10] = [
     ("numbers-exchanged", LiveSlip::NumbersExchanged),
     ("stamp-first", LiveSlip::StampFirst),
     ("left-over-ignored", LiveSlip::LeftOverIgnored),
+    ("held-cut-short", LiveSlip::HeldCutShort),
     ("refused-cleared", LiveSlip::RefusedCleared),
     ("empty-face-no-item", LiveSlip::EmptyFaceNoItem),
 ];
@@ -60,14 +64,27 @@ impl Wrong {
 
 // ---- A machine as numbers ----
 
+/// A moment of the keyboard's own clock, in milliseconds.
+#[repr(C)]
+#[derive(Clone, Copy, PartialEq, Eq, Default, Debug)]
+pub struct Stamp {
+    pub ms: u64,
+}
+
+pub const fn at(ms: u64) -> Stamp {
+    Stamp { ms }
+}
+
 /// The numbers of a machine, or of none. The fields are those of the C face.
 #[repr(C)]
 #[derive(Clone, Copy, PartialEq, Eq, Default, Debug)]
 pub struct Flat {
-    pub last: u64,
-    pub m: u64,
-    pub o: u64,
-    pub r: u64,
+    pub last: Stamp,
+    pub m: Stamp,
+    pub o: Stamp,
+    pub r: Stamp,
+    /// One bit a key, key 0 the lowest.
+    pub held: u64,
     pub t: u16,
     pub j: u8,
     pub l: u8,
@@ -80,19 +97,20 @@ pub struct Flat {
 impl Flat {
     /// The numbers of a machine that has these settings.
     pub fn of((t, j, l, solo): RawSettings, machine: &Machine) -> Flat {
-        let flat = Flat { last: machine.last, t, j, l, solo, ..Flat::default() };
+        let (last, held) = (at(machine.last), machine.held.0.into());
+        let flat = Flat { last, held, t, j, l, solo, ..Flat::default() };
         match machine.resting {
             Resting::S1 => Flat { state: 1, ..flat },
-            Resting::S2 { key, m } => Flat { state: 2, key, m, ..flat },
-            Resting::S3 { thumb, o } => Flat { state: 3, thumb: number(thumb), o, ..flat },
+            Resting::S2 { key, m } => Flat { state: 2, key, m: at(m), ..flat },
+            Resting::S3 { thumb, o } => Flat { state: 3, thumb: number(thumb), o: at(o), ..flat },
             Resting::S4 { key, m, thumb, o } => {
-                Flat { state: 4, key, m, thumb: number(thumb), o, ..flat }
+                Flat { state: 4, key, m: at(m), thumb: number(thumb), o: at(o), ..flat }
             }
             Resting::S5 { thumb, o, key, m } => {
-                Flat { state: 5, thumb: number(thumb), o, key, m, ..flat }
+                Flat { state: 5, thumb: number(thumb), o: at(o), key, m: at(m), ..flat }
             }
             Resting::S6 { thumb, o, key, m, r } => {
-                Flat { state: 6, thumb: number(thumb), o, key, m, r, ..flat }
+                Flat { state: 6, thumb: number(thumb), o: at(o), key, m: at(m), r: at(r), ..flat }
             }
         }
     }
@@ -103,7 +121,11 @@ impl Flat {
         let ignored = wrong.live(LiveSlip::LeftOverIgnored);
         let settings = settings(wrong, self.raw_settings()).ok_or(2u32)?;
         let resting = self.resting().filter(|_| ignored || self.nothing_left_over()).ok_or(2u32)?;
-        let machine = Machine { settings, resting, last: self.last };
+        let held = match wrong.live(LiveSlip::HeldCutShort) {
+            true => self.held as u32,
+            false => u32::try_from(self.held).map_err(|_| 2u32)?,
+        };
+        let machine = Machine { settings, resting, last: self.last.ms, held: Held(held) };
         if machine.well_formed() {
             Ok(machine)
         } else {
@@ -117,7 +139,7 @@ impl Flat {
 
     /// The resting state, by the numbers that it uses.
     fn resting(&self) -> Option<Resting> {
-        let Flat { m, o, r, key, .. } = *self;
+        let Flat { m: Stamp { ms: m }, o: Stamp { ms: o }, r: Stamp { ms: r }, key, .. } = *self;
         let thumb = thumb(self.thumb);
         match self.state {
             1 => Some(Resting::S1),
@@ -132,12 +154,13 @@ impl Flat {
 
     /// Every number that the state doesn't use is 0.
     fn nothing_left_over(&self) -> bool {
+        let [m, o, r] = [self.m, self.o, self.r].map(|stamp| stamp.ms);
         let (key, thumb) = (u64::from(self.key), u64::from(self.thumb));
         let left_over = match self.state {
-            1 => self.m | self.o | self.r | key | thumb,
-            2 => self.o | self.r | thumb,
-            3 => self.m | self.r | key,
-            4 | 5 => self.r,
+            1 => m | o | r | key | thumb,
+            2 => o | r | thumb,
+            3 => m | r | key,
+            4 | 5 => r,
             _ => 0,
         };
         left_over == 0
@@ -253,10 +276,11 @@ type Distance = Result<Option<i64>, u32>;
 
 /// The right answer, turned into the one that a wrong rule gives.
 fn slipped(slip: Option<LiveSlip>, flat: &Flat, stamp: u64, answer: Distance) -> Distance {
+    let last = flat.last.ms;
     // A deadline from the last accepted stamp, and from there to the stamp.
     let from_last = || -> Distance {
-        let right = flat.machine(Wrong::default())?.distance(flat.last)?;
-        Ok(right.map(|right| right + (flat.last - stamp) as i64))
+        let right = flat.machine(Wrong::default())?.distance(last)?;
+        Ok(right.map(|right| right + (last - stamp) as i64))
     };
     match (slip, answer) {
         (Some(LiveSlip::SignTurned), Ok(Some(right))) => Ok(Some(-right)),
@@ -266,7 +290,7 @@ fn slipped(slip: Option<LiveSlip>, flat: &Flat, stamp: u64, answer: Distance) ->
         (Some(LiveSlip::EarlyAnswered), Err(5)) => from_last(),
         (Some(LiveSlip::NumbersExchanged), Err(number @ 4..=5)) => Err(9 - number),
         (Some(LiveSlip::StampFirst), Err(2)) if stamp > LARGEST_STAMP => Err(4),
-        (Some(LiveSlip::StampFirst), Err(2)) if stamp < flat.last => Err(5),
+        (Some(LiveSlip::StampFirst), Err(2)) if stamp < last => Err(5),
         _ => answer,
     }
 }

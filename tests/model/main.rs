@@ -5,6 +5,7 @@
 //! many MiB and keeps little of it in memory.
 
 mod check_drill;
+mod check_held;
 mod check_live;
 mod check_pieces;
 mod worked;
@@ -103,6 +104,7 @@ fn check_all() -> Result<(), String> {
     check_program()?;
     check_drill::check_all()?;
     check_live::check_all()?;
+    check_held::check_all()?;
     check_pieces::check_all()?;
     check_demand3()?;
     check_rules_reached()
@@ -186,7 +188,7 @@ fn check_examples() -> Result<(), String> {
     for example in &EXAMPLES {
         check_example(example).map_err(|what| format!("{}: {what}", example.name))?;
     }
-    println!("examples: {} runs, P1 to P11 and 4/12's among them", EXAMPLES.len());
+    println!("examples: {} runs, P1 to P11, 4/12's and 7/12's among them", EXAMPLES.len());
     Ok(())
 }
 
@@ -418,15 +420,20 @@ fn check_demand3() -> Result<(), String> {
 type Reached = (&'static str, u8, &'static str, usize);
 
 /// The rules of 01's section "One event", some that change only the last stamp
-/// among them.
-const RULES: [Reached; 41] = [
+/// among them, as repeats do (7/12).
+const RULES: [Reached; 49] = [
+    ("S1", 1, "S1", 0),
     ("S1", 1, "S2", 0),
+    ("S1", 2, "S1", 0),
     ("S1", 3, "S3", 0),
+    ("S2", 1, "S2", 0),
     ("S2", 1, "S2", 1),
+    ("S2", 2, "S2", 0),
     ("S2", 3, "S4", 0),
     ("S2", 2, "S1", 1),
     ("S2", 5, "S1", 1),
     ("S2", 6, "S2", 0),
+    ("S3", 1, "S3", 0),
     ("S3", 1, "S5", 0),
     ("S3", 3, "S3", 0),
     ("S3", 3, "S3", 1),
@@ -434,6 +441,7 @@ const RULES: [Reached; 41] = [
     ("S3", 4, "S1", 1),
     ("S3", 5, "S1", 0),
     ("S3", 5, "S1", 1),
+    ("S4", 1, "S4", 0),
     ("S4", 1, "S5", 1),
     ("S4", 1, "S2", 1),
     ("S4", 3, "S3", 1),
@@ -442,6 +450,7 @@ const RULES: [Reached; 41] = [
     ("S4", 2, "S1", 1),
     ("S4", 4, "S1", 1),
     ("S4", 5, "S1", 1),
+    ("S5", 1, "S5", 0),
     ("S5", 1, "S2", 1),
     ("S5", 3, "S4", 0),
     ("S5", 3, "S4", 1),
@@ -453,6 +462,7 @@ const RULES: [Reached; 41] = [
     ("S5", 2, "S1", 1),
     ("S5", 2, "S5", 0),
     ("S5", 5, "S1", 1),
+    ("S6", 1, "S6", 0),
     ("S6", 1, "S2", 1),
     ("S6", 3, "S3", 1),
     ("S6", 2, "S1", 1),

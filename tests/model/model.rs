@@ -1,4 +1,4 @@
-//! The key-timing machine of document 01, as requests 1/12, 3/12 and 4/12 of
+//! The key-timing machine of document 01, as requests 1/12, 3/12, 4/12 and 7/12 of
 //! document 02 mend it, in plain Rust, section by section in 01's order. Written
 //! from the papers alone and never from the proved code, so that a comparison of
 //! the two says something.
@@ -11,6 +11,8 @@ pub const SHORT_OVERLAP: u64 = 400;
 pub const LEAST_T: u64 = 50;
 pub const MOST_T: u64 = 1_000;
 pub const KEYS: u8 = 31;
+/// So many of them may be held at once (7/12).
+pub const MOST_HELD: u32 = 6;
 pub const LARGEST_STAMP: u64 = 1_000_000_000_000;
 
 /// A wrong rule put in on purpose, to show that a comparison can fail.
@@ -34,9 +36,38 @@ pub enum Slip {
     ShortOverlapLate,
     /// T above 200 is refused, as before 4/12.
     TMost200,
+    /// A down of a key that is held is a new press, as before 7/12.
+    RepeatsAsPresses,
+    /// A down of a key that is held changes nothing, not even the last stamp.
+    RepeatIgnored,
+    /// A down of a key that is held is refused 11 too, while 6 are held.
+    RepeatRefused,
+    /// An up leaves its key held.
+    UpHolds,
+    /// A function key clears the held set.
+    FunctionClears,
+    /// A seventh key may be held.
+    SevenHeld,
+    /// 11 comes before 3.
+    ElevenBeforeThree,
+    /// 11 comes before 4.
+    ElevenBeforeFour,
+    /// 11 comes before 5.
+    ElevenBeforeFive,
+    /// On a record 8 comes before 11. No single event shows it.
+    EightBeforeEleven,
+    /// An up of a key that is not held acts as an up. No sequence from a fresh state
+    /// shows it, as there every key that waits is held.
+    StrayUpActs,
+    /// M counts as held while it waits. No sequence from a fresh state shows it.
+    WaitingCountsAsHeld,
+    /// Bit 31 of the held set may be 1. No sequence from a fresh state shows it.
+    Bit31Allowed,
+    /// Seven held keys are well formed. No sequence from a fresh state shows it.
+    SevenFormed,
 }
 
-pub const SLIPS: [(&str, Slip); 9] = [
+pub const SLIPS: [(&str, Slip); 23] = [
     ("late-after-event", Slip::LateAfterEvent),
     ("rounds-down", Slip::RoundsDown),
     ("thumb-restarts", Slip::ThumbRestarts),
@@ -46,6 +77,20 @@ pub const SLIPS: [(&str, Slip); 9] = [
     ("no-short-overlap-in-s5", Slip::NoShortOverlapInS5),
     ("short-overlap-late", Slip::ShortOverlapLate),
     ("t-most-200", Slip::TMost200),
+    ("repeats-as-presses", Slip::RepeatsAsPresses),
+    ("repeat-ignored", Slip::RepeatIgnored),
+    ("repeat-refused", Slip::RepeatRefused),
+    ("up-holds", Slip::UpHolds),
+    ("function-clears", Slip::FunctionClears),
+    ("seven-held", Slip::SevenHeld),
+    ("eleven-before-three", Slip::ElevenBeforeThree),
+    ("eleven-before-four", Slip::ElevenBeforeFour),
+    ("eleven-before-five", Slip::ElevenBeforeFive),
+    ("eight-before-eleven", Slip::EightBeforeEleven),
+    ("stray-up-acts", Slip::StrayUpActs),
+    ("waiting-counts-as-held", Slip::WaitingCountsAsHeld),
+    ("bit-31-allowed", Slip::Bit31Allowed),
+    ("seven-formed", Slip::SevenFormed),
 ];
 
 /// Settings in range: `new` is the only way to get one.
@@ -178,17 +223,51 @@ pub enum Resting {
 
 use Resting::{S1, S2, S3, S4, S5, S6};
 
+/// Request 7/12: the set of held character keys, one bit a key, key 0 the lowest.
+#[derive(Clone, Copy, PartialEq, Eq, Default, Debug)]
+pub struct Held(pub u32);
+
+impl Held {
+    /// The set of these keys.
+    pub fn of(keys: &[u8]) -> Held {
+        keys.iter().fold(Held::default(), |held, key| held.with(*key))
+    }
+
+    pub fn has(self, key: u8) -> bool {
+        key < KEYS && self.0 >> key & 1 == 1
+    }
+
+    /// The character keys in the set.
+    pub fn keys(self) -> impl Iterator<Item = u8> {
+        (0..KEYS).filter(move |key| self.has(*key))
+    }
+
+    /// The number of ones, bit 31 among them.
+    pub fn count(self) -> u32 {
+        self.0.count_ones()
+    }
+
+    pub fn with(self, key: u8) -> Held {
+        Held(self.0 | 1 << key)
+    }
+
+    pub fn without(self, key: u8) -> Held {
+        Held(self.0 & !(1 << key))
+    }
+}
+
 #[derive(Clone, Copy, PartialEq, Eq, Debug)]
 pub struct Machine {
     pub settings: Settings,
     pub resting: Resting,
     /// The last accepted stamp.
     pub last: u64,
+    pub held: Held,
 }
 
 impl Machine {
     pub fn fresh(settings: Settings) -> Machine {
-        Machine { settings, resting: S1, last: 0 }
+        Machine { settings, resting: S1, last: 0, held: Held::default() }
     }
 
     pub fn well_formed(&self) -> bool {
@@ -201,7 +280,22 @@ impl Machine {
             S5 { key, o, m, .. } => key < KEYS && o <= m && m <= last,
             S6 { key, o, m, r, .. } => key < KEYS && o <= m && m <= r && r <= last,
         };
-        resting && last <= LARGEST_STAMP
+        resting && last <= LARGEST_STAMP && self.held_well_formed()
+    }
+
+    /// Bits 31 and up are 0, and at most 6 are set. That the key which waits is held is
+    /// not asked.
+    fn held_well_formed(&self) -> bool {
+        let s = &self.settings;
+        let seven = s.slips(Slip::SevenFormed) || s.slips(Slip::SevenHeld);
+        let top_is_0 = self.held.0 >> KEYS == 0 || s.slips(Slip::Bit31Allowed);
+        top_is_0 && self.held.count() <= MOST_HELD + u32::from(seven)
+    }
+
+    /// Whether a down of this key is a repeat.
+    pub fn holds(&self, key: u8) -> bool {
+        let waits = self.settings.slips(Slip::WaitingCountsAsHeld) && self.waiting() == Some(key);
+        self.held.has(key) || waits
     }
 
     /// Request 3/12: the milliseconds from a keyboard stamp to the next deadline,
@@ -241,7 +335,7 @@ impl Machine {
         let now = event.stamp;
         let waits = matches!(self.distance(now), Ok(Some(1..)));
         let input = parse(event.kind, event.key).filter(|_| waits)?;
-        let (percent, a, b) = match (self.resting, input) {
+        let (percent, a, b) = match (self.resting, acts_as(self, input)) {
             (S4 { key, m, o, .. }, Input::CharacterUp(up)) if up == key => {
                 (self.settings.j, o - m, now - o)
             }
@@ -305,15 +399,46 @@ pub struct Step {
 /// machine stays as it was given).
 pub fn step(machine: &Machine, event: Event) -> Result<Step, u32> {
     let input = accept(machine, event)?;
-    let now = event.stamp;
-    let (items, resting) = if machine.settings.slips(Slip::LateAfterEvent) {
-        in_turn(machine, |m| act(m, input, now), |m| settle(m, now))
+    let (settings, now) = (machine.settings, event.stamp);
+    let repeats = matches!(input, Input::CharacterDown(key) if machine.holds(key));
+    if repeats && settings.slips(Slip::RepeatIgnored) {
+        return Ok(Step { machine: *machine, items: vec![], sendings: vec![] });
+    }
+    let acting = acts_as(machine, input);
+    let (items, resting) = if settings.slips(Slip::LateAfterEvent) {
+        in_turn(machine, |m| act(m, acting, now), |m| settle(m, now))
     } else {
-        in_turn(machine, |m| settle(m, now), |m| act(m, input, now))
+        in_turn(machine, |m| settle(m, now), |m| act(m, acting, now))
     };
-    let after = Machine { settings: machine.settings, resting, last: now };
+    let after = Machine { settings, resting, last: now, held: held_after(machine, input) };
     let sendings = sendings(shown(&machine.resting), &items, shown(&resting));
     Ok(Step { machine: after, items, sendings })
+}
+
+/// Request 7/12: a down of a key that is held already, and an up of one that is not,
+/// act as a tick.
+fn acts_as(machine: &Machine, input: Input) -> Input {
+    let wrong = |slip| machine.settings.slips(slip);
+    match input {
+        Input::CharacterDown(_) if wrong(Slip::RepeatsAsPresses) => input,
+        Input::CharacterDown(key) if machine.holds(key) => Input::Tick,
+        Input::CharacterUp(_) if wrong(Slip::StrayUpActs) => input,
+        Input::CharacterUp(key) if !machine.held.has(key) => Input::Tick,
+        _ => input,
+    }
+}
+
+/// The keys that are held after an accepted event: a down holds its key, an up lets it
+/// go, and nothing else changes the set, a function key neither.
+fn held_after(machine: &Machine, input: Input) -> Held {
+    let Machine { settings, held, .. } = *machine;
+    match input {
+        Input::CharacterDown(key) => held.with(key),
+        Input::CharacterUp(_) if settings.slips(Slip::UpHolds) => held,
+        Input::CharacterUp(key) => held.without(key),
+        Input::Function if settings.slips(Slip::FunctionClears) => Held::default(),
+        _ => held,
+    }
 }
 
 /// Does one thing and then another, gathering their items.
@@ -328,19 +453,41 @@ fn in_turn(
     (items, resting)
 }
 
-/// Refusals 2, 3, 4, 5 in this order.
+/// Refusals 2, 3, 4, 5, 11 in this order.
 fn accept(machine: &Machine, event: Event) -> Result<Input, u32> {
     if !machine.well_formed() {
         return Err(2);
     }
+    let too_many = too_many(machine, event);
+    let before = |slip| too_many && machine.settings.slips(slip);
+    if before(Slip::ElevenBeforeThree) {
+        return Err(11);
+    }
     let input = parse(event.kind, event.key).ok_or(3u32)?;
+    if before(Slip::ElevenBeforeFour) {
+        return Err(11);
+    }
     if event.stamp > LARGEST_STAMP {
         return Err(4);
+    }
+    if before(Slip::ElevenBeforeFive) {
+        return Err(11);
     }
     if event.stamp < machine.last {
         return Err(5);
     }
+    if too_many {
+        return Err(11);
+    }
     Ok(input)
+}
+
+/// A press of a new key while 6 are held (7/12). A key that is held is not new.
+fn too_many(machine: &Machine, event: Event) -> bool {
+    let settings = &machine.settings;
+    let new = !machine.holds(event.key) || settings.slips(Slip::RepeatRefused);
+    let most = MOST_HELD + u32::from(settings.slips(Slip::SevenHeld));
+    event.kind == 1 && new && machine.held.count() == most
 }
 
 fn parse(kind: u8, key: u8) -> Option<Input> {

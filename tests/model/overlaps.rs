@@ -2,7 +2,7 @@
 //! end an overlap under its share of the whole. Under 400 ms M and O count as two
 //! single keys, from 400 ms on as a chord.
 
-use crate::log::accepted_events;
+use crate::log::judged_events;
 use crate::model::{Event, Machine, Resting, SHORT_OVERLAP};
 use crate::tally::Tally;
 
@@ -31,9 +31,9 @@ impl Overlaps {
         }
     }
 
-    /// Counts the accepted events of a log.
+    /// Counts the events of a log. One that is refused ends no overlap.
     pub fn add_log(&mut self, log: &[u8]) {
-        accepted_events(log).iter().for_each(|(machine, event)| self.add(machine, *event));
+        judged_events(log).iter().for_each(|(machine, event)| self.add(machine, *event));
     }
 
     pub fn print(&self) {

@@ -4,12 +4,12 @@
 //! cut a log.
 
 use crate::generate::{random_events, right_settings, wrong_settings};
-use crate::live::{self, Flat};
+use crate::live::{self, at, Flat};
 use crate::log::{event_record, settings_record};
 use crate::model::Event;
 use crate::pieces::{FlatReader, Reader, LONGEST_LOG, LONGEST_RECORD};
 use crate::random::Random;
-use crate::states::{self, broken_state, nameless_state, right_state};
+use crate::states::{self, bit, broken_state, nameless_state, right_state, NONE, SIX};
 
 /// A reader, the piece that it is given and the length of that piece's run.
 pub struct Call {
@@ -127,7 +127,7 @@ fn random_offset(random: &mut Random, bytes: u64) -> u64 {
 
 /// With an answer for good, mostly one that a reader can have.
 fn told(random: &mut Random, reader: FlatReader) -> FlatReader {
-    let number = random.pick(&[0, 0, 1, 3, 4, 5, 6, 7, 8, 9]);
+    let number = random.pick(&[0, 0, 1, 3, 4, 5, 6, 7, 8, 9, 11, 11]);
     let between = FlatReader { count: 0, header: 0, front: 0, tail: 0, ..reader };
     let reader = if random.once_in(4) { reader } else { between };
     FlatReader { told: 1, number, ..reader }
@@ -161,7 +161,7 @@ fn broken(random: &mut Random, reader: FlatReader) -> FlatReader {
             FlatReader { words: many, ..reader }
         }
         5 => FlatReader { told: 0, number: random.pick(&[1, 2, 6, 9, u32::MAX]), ..reader },
-        6 => FlatReader { told: 1, number: random.pick(&[2, 10, 11, u32::MAX]), ..reader },
+        6 => FlatReader { told: 1, number: random.pick(&[2, 10, 12, u32::MAX]), ..reader },
         _ => FlatReader { told: random.pick(&[2, 3, 256, u32::MAX]), ..reader },
     }
 }
@@ -203,11 +203,8 @@ fn cut(length: usize, mut size: impl FnMut() -> usize) -> Vec<usize> {
 
 // ---- Every place of the numbers ----
 
-const OPENED: Flat =
-    Flat { last: 50, m: 0, o: 0, r: 0, t: 100, j: 50, l: 50, solo: 1, state: 1, key: 0, thumb: 0 };
-const WAITING: Flat = Flat { state: 2, key: 21, m: 50, ..OPENED };
-const NONE: Flat =
-    Flat { last: 0, m: 0, o: 0, r: 0, t: 0, j: 0, l: 0, solo: 0, state: 0, key: 0, thumb: 0 };
+const OPENED: Flat = Flat { last: at(50), ..states::USUAL };
+const WAITING: Flat = Flat { state: 2, key: 21, m: at(50), held: bit(21), ..OPENED };
 const FRESH: FlatReader = FlatReader {
     machine: NONE,
     offset: 0,
@@ -222,8 +219,8 @@ const FRESH: FlatReader = FlatReader {
 const BETWEEN: FlatReader = FlatReader { machine: WAITING, offset: 1_021, words: 157, ..FRESH };
 
 /// Between two records, within one at every part of it, after a refusal and after the
-/// end, and near the longest log.
-const BASES: [FlatReader; 11] = [
+/// end, near the longest log, and while six keys are held.
+const BASES: [FlatReader; 14] = [
     FRESH,
     FlatReader { count: 7, header: 0x01_0005, front: 100, tail: 0x3232, ..FRESH },
     FlatReader { machine: OPENED, offset: 8, ..FRESH },
@@ -235,7 +232,13 @@ const BASES: [FlatReader; 11] = [
     FlatReader { told: 1, number: 7, ..BETWEEN },
     FlatReader { told: 1, ..BETWEEN },
     FlatReader { offset: LONGEST_LOG - 13, ..BETWEEN },
+    FlatReader { machine: Flat { held: SIX, ..WAITING }, ..BETWEEN },
+    FlatReader { count: 12, header: 0x02_000a, front: 0x0116, machine: FULL, ..BETWEEN },
+    FlatReader { told: 1, number: 11, machine: FULL, ..BETWEEN },
 ];
+
+/// Six keys are held, and what waits is due when the next record comes.
+const FULL: Flat = Flat { m: at(0), last: at(9), held: SIX, ..WAITING };
 
 /// What is put into each place besides the values of a state's places.
 const MORE_VALUES: [u64; 15] = [
@@ -275,13 +278,15 @@ fn with(reader: FlatReader, place: usize, value: u64) -> Option<FlatReader> {
 /// Hands over every call of the fixed set; stops at the first error.
 pub fn every_call<E>(mut visit: impl FnMut(Call) -> Result<(), E>) -> Result<(), E> {
     let up = event_record(Event { kind: 2, key: 21, stamp: 60 });
+    let down = event_record(Event { kind: 1, key: 22, stamp: 150 });
     let settings = settings_record(100, 50, 50, 1);
-    let pieces = [&[][..], &[10], &up, &up[1..], &up[12..], &settings, &[9, 255, 255], &[9, 0, 0]];
+    let records = [&[][..], &[10], &up, &up[1..], &up[12..], &down, &down[12..], &settings];
+    let pieces = records.into_iter().chain([&[9, 255, 255][..], &[9, 0, 0]]);
     for base in BASES {
         for place in 0..8 + states::PLACES {
             let values = states::VALUES.iter().chain(&MORE_VALUES);
             for reader in values.filter_map(|value| with(base, place, *value)) {
-                for (piece, room) in pieces.iter().flat_map(|piece| [(piece, 9), (piece, 1)]) {
+                for (piece, room) in pieces.clone().flat_map(|piece| [(piece, 9), (piece, 1)]) {
                     visit(Call { reader, piece: piece.to_vec(), room })?;
                 }
             }

@@ -3,8 +3,8 @@
 //! formed or name no machine, and a fixed set that tries every place of the numbers.
 
 use crate::generate::{boundary_settings, due, forbidden, right_settings, wrong_settings};
-use crate::live::{Flat, Wrong};
-use crate::model::{Event, KEYS, LARGEST_STAMP, SHORT_OVERLAP};
+use crate::live::{at, Flat, Wrong};
+use crate::model::{Event, Held, KEYS, LARGEST_STAMP, MOST_HELD, SHORT_OVERLAP};
 use crate::random::Random;
 
 // ---- Random states ----
@@ -33,7 +33,9 @@ fn right_state_in(random: &mut Random, state: u8) -> Flat {
     let second = third.saturating_sub(gap(random, &settings));
     let first = second.saturating_sub(gap(random, &settings));
     let (key, thumb) = (right_key(random), random.pick(&[0, 1]));
-    let flat = Flat { last, state, ..settings };
+    let held = right_held(random, key).0.into();
+    let [last, third, second, first] = [last, third, second, first].map(at);
+    let flat = Flat { last, held, state, ..settings };
     match state {
         1 => flat,
         2 => Flat { key, m: third, ..flat },
@@ -42,6 +44,27 @@ fn right_state_in(random: &mut Random, state: u8) -> Flat {
         5 => Flat { key, m: third, thumb, o: second, ..flat },
         _ => Flat { key, m: second, thumb, o: first, r: third, ..flat },
     }
+}
+
+/// Up to six keys, often six; mostly with this one among them, which is the one that
+/// waits, if one does.
+fn right_held(random: &mut Random, waiting: u8) -> Held {
+    let count = random.pick(&[0, 1, 1, 2, 3, 5, 6, 6]);
+    let among = count > 0 && !random.once_in(4);
+    let held = if among { Held::of(&[waiting]) } else { Held::default() };
+    filled(random, held, count, |key| key != waiting)
+}
+
+/// A set with more keys put in, any of those that may be, until there are so many.
+fn filled(random: &mut Random, held: Held, count: u32, may_be: impl Fn(u8) -> bool) -> Held {
+    let mut held = held;
+    while held.count() < count {
+        let key = random.below(KEYS.into()) as u8;
+        if may_be(key) {
+            held = held.with(key);
+        }
+    }
+    held
 }
 
 /// Near 0, near the largest, or anywhere between.
@@ -86,7 +109,7 @@ fn right_key(random: &mut Random) -> u8 {
 /// A state that names a machine, but one that is not well formed: one clause is
 /// broken, or a stamp is far out.
 pub fn broken_state(random: &mut Random) -> Flat {
-    match random.below(4) {
+    match random.below(5) {
         0 => {
             let (t, j, l, solo) = wrong_settings(random);
             Flat { t, j, l, solo, ..right_state(random) }
@@ -96,8 +119,22 @@ pub fn broken_state(random: &mut Random) -> Flat {
             Flat { key: random.pick(&[31, 32, 63, 255]), ..right_state_in(random, state) }
         }
         2 => late_stamp(random),
+        3 => wrong_held(random),
         _ => wrong_order(random),
     }
+}
+
+/// More than six keys are held, or bit 31 is 1, or both.
+fn wrong_held(random: &mut Random) -> Flat {
+    let flat = right_state(random);
+    let held = Held(flat.held as u32);
+    let many = random.pick(&[MOST_HELD + 1, MOST_HELD + 1, 10, 31]);
+    let seven = filled(random, held, many, |_| true);
+    let top = 1 << 31;
+    // With five others or fewer, bit 31 is one of six at most.
+    let few = if held.count() < MOST_HELD { held.0 } else { 0 };
+    let held = random.pick(&[seven.0, seven.0, seven.0 | top, few | top, few | top, top]);
+    Flat { held: held.into(), ..flat }
 }
 
 /// The last accepted stamp is above the largest, or another above it.
@@ -105,7 +142,8 @@ fn late_stamp(random: &mut Random) -> Flat {
     let state = random.between(1, 6) as u8;
     let flat = right_state_in(random, state);
     let beyond = random.pick(&[LARGEST_STAMP + 1, LARGEST_STAMP + 256, 1 << 63, u64::MAX]);
-    let after = random.pick(&[flat.last + 1, flat.last + 256, beyond]);
+    let after = random.pick(&[flat.last.ms + 1, flat.last.ms + 256, beyond]);
+    let [beyond, after] = [beyond, after].map(at);
     match (state, random.once_in(4)) {
         (1, _) | (_, true) => Flat { last: beyond, ..flat },
         (2 | 5, _) => Flat { m: after, ..flat },
@@ -118,26 +156,34 @@ fn late_stamp(random: &mut Random) -> Flat {
 fn wrong_order(random: &mut Random) -> Flat {
     let state = random.pick(&[4, 5, 6]);
     let flat = right_state_in(random, state);
-    let last = flat.last.max(1);
+    let last = flat.last.ms.max(1);
     let low = last - 1 - gap(random, &flat).min(last - 1);
     let wide = gap(random, &flat);
     let high = random.pick(&[low + 1, last, low + 1 + wide]).min(last);
+    let lower = random.below(low + 1);
+    let [last, low, high, lower] = [last, low, high, lower].map(at);
     let flat = Flat { last, ..flat };
     match (state, random.once_in(2)) {
         (4, _) => Flat { m: high, o: low, ..flat },
         (5, _) => Flat { m: low, o: high, ..flat },
         (_, true) => Flat { m: low, o: high, r: last, ..flat },
-        _ => Flat { m: high, o: random.below(low + 1), r: low, ..flat },
+        _ => Flat { m: high, o: lower, r: low, ..flat },
     }
 }
 
 /// A state that names no machine, well formed apart from that.
 pub fn nameless_state(random: &mut Random) -> Flat {
-    match random.below(3) {
+    match random.below(4) {
         0 => Flat { state: random.pick(&[0, 7, 8, 255]), ..right_state(random) },
         1 => {
             let state = random.between(3, 6) as u8;
             Flat { thumb: random.pick(&[2, 3, 255]), ..right_state_in(random, state) }
+        }
+        2 => {
+            // A held set of more than 32 bits, the low ones as they may be.
+            let flat = right_state(random);
+            let beyond = random.pick(&[1 << 32, 1 << 33, 1 << 63, u64::MAX << 32]);
+            Flat { held: flat.held | beyond, ..flat }
         }
         _ => left_over(random),
     }
@@ -147,7 +193,8 @@ pub fn nameless_state(random: &mut Random) -> Flat {
 fn left_over(random: &mut Random) -> Flat {
     let state = random.between(1, 5) as u8;
     let flat = right_state_in(random, state);
-    let stamp = random.pick(&[1, 1, flat.last.max(1), LARGEST_STAMP + 1, 1 << 32, u64::MAX]);
+    let stamp = random.pick(&[1, 1, flat.last.ms.max(1), LARGEST_STAMP + 1, 1 << 32, u64::MAX]);
+    let stamp = at(stamp);
     let (key, thumb) = (random.pick(&[1, 30, 31, 255]), random.pick(&[1, 2, 255]));
     let with_m = Flat { m: stamp, ..flat };
     let with_o = Flat { o: stamp, ..flat };
@@ -167,16 +214,18 @@ fn noise(random: &mut Random) -> Flat {
     let base = right_state(random);
     let mut stamp = |right| {
         let any = random.next();
-        random.pick(&[right, right, 0, any, any % LARGEST_STAMP])
+        random.pick(&[right, right, at(0), at(any), at(any % LARGEST_STAMP)])
     };
     let [last, m, o, r] = [base.last, base.m, base.o, base.r].map(&mut stamp);
+    let any = random.next();
+    let held = random.pick(&[base.held, base.held, 0, any, any >> 32, 1 << (any % 64)]);
     let mut byte = |right| {
         let any = random.byte();
         random.pick(&[right, right, right, 0, any, any % 8])
     };
     let [j, l, solo, state] = [base.j, base.l, base.solo, base.state].map(&mut byte);
     let [key, thumb] = [base.key, base.thumb].map(&mut byte);
-    Flat { last, m, o, r, t: base.t, j, l, solo, state, key, thumb }
+    Flat { last, m, o, r, held, t: base.t, j, l, solo, state, key, thumb }
 }
 
 // ---- Events and stamps for a state ----
@@ -197,20 +246,24 @@ pub fn random_event(random: &mut Random, flat: &Flat) -> Event {
 /// The release that ends an overlap, at or beside 400 ms.
 fn overlap_end(random: &mut Random, flat: &Flat) -> Option<Event> {
     let (kind, key, pressed) = match flat.state {
-        4 => (2, flat.key, flat.o),
-        5 => (4, flat.thumb, flat.m),
+        4 => (2, flat.key, flat.o.ms),
+        5 => (4, flat.thumb, flat.m.ms),
         _ => return None,
     };
+    let last = flat.last.ms;
     let stamp = near(random, pressed.saturating_add(SHORT_OVERLAP));
-    Some(Event { kind, key, stamp: stamp.clamp(flat.last, LARGEST_STAMP.max(flat.last)) })
+    Some(Event { kind, key, stamp: stamp.clamp(last, LARGEST_STAMP.max(last)) })
 }
 
+/// Of character keys M's, one that is held, and others.
 fn allowed(random: &mut Random, flat: &Flat) -> (u8, u8) {
     let own = flat.key.min(KEYS - 1);
     let other = right_key(random);
+    let held: Vec<u8> = Held(flat.held as u32).keys().chain([other]).collect();
+    let held = random.pick(&held);
     match random.below(12) {
-        0..=2 => (1, random.pick(&[own, other, other])),
-        3 | 4 => (2, random.pick(&[own, own, other])),
+        0..=2 => (1, random.pick(&[own, held, other, other])),
+        3 | 4 => (2, random.pick(&[own, own, held, other])),
         5..=7 => (3, random.pick(&[0, 1])),
         8 | 9 => (4, random.pick(&[0, 1])),
         10 => (5, 0),
@@ -221,17 +274,18 @@ fn allowed(random: &mut Random, flat: &Flat) -> (u8, u8) {
 /// A stamp for an event or to ask at, mostly one that the state accepts.
 pub fn random_stamp(random: &mut Random, flat: &Flat) -> u64 {
     let turn = random.pick(&turns(flat));
-    let accepted = LARGEST_STAMP.max(flat.last);
+    let last = flat.last.ms;
+    let accepted = LARGEST_STAMP.max(last);
     let any = random.next();
     match random.below(32) {
-        0..=2 => flat.last,
-        3..=9 => near(random, deadline(flat)).clamp(flat.last, accepted),
-        10..=15 => near(random, turn).clamp(flat.last, accepted),
-        16..=20 => flat.last.saturating_add(random.below(40)),
-        21..=24 => flat.last.saturating_add(gap(random, flat)),
-        25 | 26 => flat.last.saturating_sub(random.pick(&[1, 1, 2, 256])),
+        0..=2 => last,
+        3..=9 => near(random, deadline(flat)).clamp(last, accepted),
+        10..=15 => near(random, turn).clamp(last, accepted),
+        16..=20 => last.saturating_add(random.below(40)),
+        21..=24 => last.saturating_add(gap(random, flat)),
+        25 | 26 => last.saturating_sub(random.pick(&[1, 1, 2, 256])),
         27 => near(random, turn),
-        28 => flat.last.saturating_sub(gap(random, flat)),
+        28 => last.saturating_sub(gap(random, flat)),
         29 | 30 => LARGEST_STAMP - 2 + random.below(5),
         _ => random.pick(&[0, LARGEST_STAMP + 256, 1 << 63, (1 << 63) - 1, u64::MAX, any]),
     }
@@ -240,12 +294,12 @@ pub fn random_stamp(random: &mut Random, flat: &Flat) -> u64 {
 /// The stamp of the deadline; the last accepted one if there is none.
 fn deadline(flat: &Flat) -> u64 {
     let machine = flat.machine(Wrong::default());
-    machine.ok().and_then(|machine| due(&machine)).unwrap_or(flat.last)
+    machine.ok().and_then(|machine| due(&machine)).unwrap_or(flat.last.ms)
 }
 
 /// Where a rule may turn besides the deadline: equal gaps, T and 400 ms.
 fn turns(flat: &Flat) -> [u64; 6] {
-    let (m, o, t) = (flat.m, flat.o, u64::from(flat.t));
+    let (m, o, t) = (flat.m.ms, flat.o.ms, u64::from(flat.t));
     [
         o.saturating_add(o.saturating_sub(m)),
         m.saturating_add(m.saturating_sub(o)),
@@ -258,27 +312,55 @@ fn turns(flat: &Flat) -> [u64; 6] {
 
 // ---- Every place of the numbers ----
 
-const USUAL: Flat =
-    Flat { last: 0, m: 0, o: 0, r: 0, t: 100, j: 50, l: 50, solo: 1, state: 1, key: 0, thumb: 0 };
+/// No machine: every number is 0.
+pub const NONE: Flat = Flat {
+    last: at(0),
+    m: at(0),
+    o: at(0),
+    r: at(0),
+    held: 0,
+    t: 0,
+    j: 0,
+    l: 0,
+    solo: 0,
+    state: 0,
+    key: 0,
+    thumb: 0,
+};
 
-/// Every state, its deadline still to come, some that are due or overdue, and two
-/// of slower hands that still wait when 400 ms are over.
-const BASES: [Flat; 11] = [
-    Flat { last: 1_000, ..USUAL },
-    Flat { state: 2, key: 21, m: 990, last: 1_000, ..USUAL },
-    Flat { state: 2, key: 0, m: 500, last: 1_000, ..USUAL },
-    Flat { state: 3, thumb: 1, o: 980, last: 1_000, ..USUAL },
-    Flat { state: 3, thumb: 0, o: 3, last: 1_000, solo: 0, ..USUAL },
-    Flat { state: 4, key: 30, m: 960, thumb: 1, o: 990, last: 1_000, ..USUAL },
-    Flat { state: 5, key: 10, m: 970, thumb: 0, o: 940, last: 1_000, ..USUAL },
-    Flat { state: 5, key: 0, m: 995, thumb: 1, o: 0, last: 1_000, ..USUAL },
-    Flat { state: 6, key: 24, m: 980, thumb: 1, o: 950, r: 995, last: 1_000, ..USUAL },
-    Flat { t: 1_000, state: 4, key: 21, m: 100, thumb: 1, o: 700, last: 1_000, ..USUAL },
-    Flat { t: 1_000, state: 5, key: 21, m: 700, thumb: 1, o: 100, last: 1_000, ..USUAL },
+/// Opened, and an event since.
+pub const USUAL: Flat = Flat { last: at(1_000), t: 100, j: 50, l: 50, solo: 1, state: 1, ..NONE };
+
+/// The bit of a key.
+pub const fn bit(key: u8) -> u64 {
+    1 << key
+}
+
+/// Six keys, the lowest and the highest among them, and 21.
+pub const SIX: u64 = bit(0) | bit(1) | bit(10) | bit(21) | bit(24) | bit(30);
+
+/// Every state, its deadline still to come, some that are due or overdue, and two of
+/// slower hands that still wait when 400 ms are over. Some hold M, or six keys with it
+/// or without it, and some no key.
+const BASES: [Flat; 13] = [
+    USUAL,
+    Flat { held: SIX, ..USUAL },
+    Flat { state: 2, key: 21, m: at(990), held: bit(21), ..USUAL },
+    Flat { state: 2, key: 0, m: at(500), held: SIX, ..USUAL },
+    Flat { state: 3, thumb: 1, o: at(980), held: bit(30), ..USUAL },
+    Flat { state: 3, thumb: 0, o: at(3), solo: 0, held: SIX, ..USUAL },
+    Flat { state: 4, key: 30, m: at(960), thumb: 1, o: at(990), held: SIX, ..USUAL },
+    Flat { state: 5, key: 10, m: at(970), thumb: 0, o: at(940), held: bit(10) | bit(5), ..USUAL },
+    Flat { state: 5, key: 5, m: at(995), thumb: 1, o: at(0), held: SIX, ..USUAL },
+    Flat { state: 6, key: 24, m: at(980), thumb: 1, o: at(950), r: at(995), ..USUAL },
+    Flat { state: 6, key: 24, m: at(980), thumb: 1, o: at(950), r: at(995), held: SIX, ..USUAL },
+    Flat { t: 1_000, state: 4, key: 21, m: at(100), thumb: 1, o: at(700), held: SIX, ..USUAL },
+    Flat { t: 1_000, state: 5, key: 21, m: at(700), thumb: 1, o: at(100), ..USUAL },
 ];
 
-/// What is put into each place of the numbers.
-pub const VALUES: [u64; 30] = [
+/// What is put into each place of the numbers. As held sets: none, one key and two,
+/// six with bit 30 and with bit 31, seven, bit 31 alone, and more bits than 32.
+pub const VALUES: [u64; 40] = [
     0,
     1,
     2,
@@ -309,25 +391,36 @@ pub const VALUES: [u64; 30] = [
     1 << 32,
     1 << 63,
     u64::MAX,
+    bit(21),
+    bit(30),
+    bit(31),
+    0b11_1111,
+    0b111_1111,
+    0x7e00_0000,
+    0x7f00_0000,
+    0xfc00_0000,
+    SIX | bit(5),
+    SIX | bit(32),
 ];
 
 /// How many places the numbers have.
-pub const PLACES: usize = 11;
+pub const PLACES: usize = 12;
 
 /// A number put into one place; none if it is too large for it.
 pub fn with(flat: Flat, place: usize, value: u64) -> Option<Flat> {
     let byte = u8::try_from(value).ok();
     Some(match place {
-        0 => Flat { last: value, ..flat },
-        1 => Flat { m: value, ..flat },
-        2 => Flat { o: value, ..flat },
-        3 => Flat { r: value, ..flat },
-        4 => Flat { t: u16::try_from(value).ok()?, ..flat },
-        5 => Flat { j: byte?, ..flat },
-        6 => Flat { l: byte?, ..flat },
-        7 => Flat { solo: byte?, ..flat },
-        8 => Flat { state: byte?, ..flat },
-        9 => Flat { key: byte?, ..flat },
+        0 => Flat { last: at(value), ..flat },
+        1 => Flat { m: at(value), ..flat },
+        2 => Flat { o: at(value), ..flat },
+        3 => Flat { r: at(value), ..flat },
+        4 => Flat { held: value, ..flat },
+        5 => Flat { t: u16::try_from(value).ok()?, ..flat },
+        6 => Flat { j: byte?, ..flat },
+        7 => Flat { l: byte?, ..flat },
+        8 => Flat { solo: byte?, ..flat },
+        9 => Flat { state: byte?, ..flat },
+        10 => Flat { key: byte?, ..flat },
         _ => Flat { thumb: byte?, ..flat },
     })
 }
@@ -352,8 +445,8 @@ type Visit<'a, E> = &'a mut dyn FnMut(&Flat, Event) -> Result<(), E>;
 
 /// Kinds 0 to 8 and 255 with every key, at stamps on and beside the bounds.
 fn every_kind_and_key<E>(flat: &Flat, visit: Visit<E>) -> Result<(), E> {
-    let due = deadline(flat);
-    let stamps = [flat.last - 1, flat.last, due, LARGEST_STAMP, LARGEST_STAMP + 1, u64::MAX];
+    let (last, due) = (flat.last.ms, deadline(flat));
+    let stamps = [last - 1, last, due, LARGEST_STAMP, LARGEST_STAMP + 1, u64::MAX];
     for kind in (0..=8).chain([255]) {
         for key in 0..=255 {
             stamps.iter().try_for_each(|stamp| visit(flat, Event { kind, key, stamp: *stamp }))?;
@@ -362,15 +455,17 @@ fn every_kind_and_key<E>(flat: &Flat, visit: Visit<E>) -> Result<(), E> {
     Ok(())
 }
 
-/// Every kind with M's key or either thumb, around the last stamp, the deadline or
-/// 400 ms of overlap.
+/// Every kind with M's key, another one or either thumb, around the last stamp, the
+/// deadline or 400 ms of overlap.
 fn every_allowed<E>(flat: &Flat, visit: Visit<E>) -> Result<(), E> {
     let due = deadline(flat);
     let own = flat.key.min(KEYS - 1);
-    let events = [(1, own), (2, own), (3, 0), (3, 1), (4, 0), (4, 1), (5, 0), (6, 0)];
-    let overlap = if flat.state == 4 { flat.o } else { flat.m }.saturating_add(SHORT_OVERLAP);
-    let stamps = [flat.last, due.saturating_sub(1), due, overlap - 1, overlap];
-    for (kind, key) in events {
+    let keys = [(1, own), (2, own), (1, 22), (2, 22)];
+    let others = [(3, 0), (3, 1), (4, 0), (4, 1), (5, 0), (6, 0)];
+    let pressed = if flat.state == 4 { flat.o } else { flat.m };
+    let overlap = pressed.ms.saturating_add(SHORT_OVERLAP);
+    let stamps = [flat.last.ms, due.saturating_sub(1), due, overlap - 1, overlap];
+    for (kind, key) in keys.into_iter().chain(others) {
         stamps.iter().try_for_each(|stamp| visit(flat, Event { kind, key, stamp: *stamp }))?;
     }
     Ok(())

@@ -1,7 +1,7 @@
 //! Document 01's "Keystrokes to try" (P8 as request 1/12 has it) and "Where a
-//! programmer slips", request 4/12's keystrokes, and a few more, as one table: what
-//! each keystroke commits and sends, and the state it leaves. States and sendings
-//! that the papers don't name were worked out by hand.
+//! programmer slips", request 4/12's keystrokes, held keys (7/12), and a few more, as
+//! one table: what each keystroke commits and sends, and the state it leaves. States
+//! and sendings that the papers don't name were worked out by hand.
 
 /// Keystroke, what it commits, what it sends, the state it leaves.
 pub type Line = (&'static str, &'static str, &'static str, &'static str);
@@ -19,7 +19,7 @@ const SLOW: (u64, u64, u64, u64) = (1_000, 50, 50, 0);
 const SLOW_SOLO: (u64, u64, u64, u64) = (1_000, 50, 50, 1);
 
 #[rustfmt::skip]
-pub const EXAMPLES: [Example; 26] = [
+pub const EXAMPLES: [Example; 32] = [
     Example { name: "P1", settings: USUAL, lines: &[
         ("21@0", "", "か", "S2"),
         ("tick@99", "", "", "S2"),
@@ -139,8 +139,8 @@ pub const EXAMPLES: [Example; 26] = [
     Example { name: "an empty face commits and shows nothing", settings: USUAL, lines: &[
         ("0@0", "", "．", "S2"),
         ("R@10", "", "", "S4"),
-        ("0@25", "", "", "S2"),
-        ("0up@30", "．", "", "S1"),
+        ("tick@20", "", "<BS>", "S1"),
+        ("0up@30", "", "", "S1"),
         ("L@40", "", "", "S3"),
         ("30@50", "", "", "S5"),
         ("tick@60", "", "", "S1"),
@@ -183,5 +183,69 @@ pub const EXAMPLES: [Example; 26] = [
         ("21@500", "", "が", "S5"),
         ("tick@900", "", "", "S5"),
         ("Rup@900", "が", "", "S1"),
+    ] },
+    Example { name: "7/12, a letter is held until it repeats", settings: USUAL, lines: &[
+        ("21@0", "", "か", "S2"),
+        ("21@99", "", "", "S2"),
+        ("21@100", "か", "", "S1"),
+        ("21@500", "", "", "S1"),
+        ("21@530", "", "", "S1"),
+        ("21up@540", "", "", "S1"),
+        ("21@550", "", "か", "S2"),
+        ("21up@560", "か", "", "S1"),
+    ] },
+    Example { name: "7/12, a repeat in every state", settings: SOLO, lines: &[
+        ("21@0", "", "か", "S2"),
+        ("21@10", "", "", "S2"),
+        ("R@20", "", "", "S4"),
+        ("21@30", "", "", "S4"),
+        ("21up@35", "か", "", "S3"),
+        ("24@50", "", "ざ", "S5"),
+        ("24@60", "", "", "S5"),
+        ("Rup@70", "", "", "S6"),
+        ("24@80", "", "", "S6"),
+        ("24@90", "<R>さ", "<BS><R>さ", "S1"),
+        ("L@100", "", "", "S3"),
+        ("24@110", "", "", "S3"),
+        ("Lup@120", "<L>", "<L>", "S1"),
+        ("24@130", "", "", "S1"),
+    ] },
+    Example { name: "7/12, a repeat does what is late first", settings: USUAL, lines: &[
+        ("0@0", "", "．", "S2"),
+        ("R@10", "", "", "S4"),
+        ("0@25", "", "<BS>", "S1"),
+        ("0up@30", "", "", "S1"),
+        ("0@35", "", "．", "S2"),
+    ] },
+    Example { name: "7/12, ups that come alone", settings: USUAL, lines: &[
+        ("21up@0", "", "", "S1"),
+        ("21@10", "", "か", "S2"),
+        ("24up@20", "", "", "S2"),
+        ("R@30", "", "", "S4"),
+        ("24up@40", "", "", "S4"),
+        ("24up@50", "が", "<BS>が", "S1"),
+        ("21up@60", "", "", "S1"),
+        ("21up@60", "", "", "S1"),
+        ("21@60", "", "か", "S2"),
+    ] },
+    Example { name: "7/12, a function key clears nothing", settings: USUAL, lines: &[
+        ("21@0", "", "か", "S2"),
+        ("F@10", "か", "", "S1"),
+        ("21@20", "", "", "S1"),
+        ("21up@30", "", "", "S1"),
+        ("21@40", "", "か", "S2"),
+    ] },
+    Example { name: "7/12, six fingers", settings: USUAL, lines: &[
+        ("10@0", "", "う", "S2"),
+        ("11@0", "う", "し", "S2"),
+        ("12@0", "し", "て", "S2"),
+        ("13@0", "て", "け", "S2"),
+        ("14@0", "け", "せ", "S2"),
+        ("15@0", "せ", "は", "S2"),
+        ("15@10", "", "", "S2"),
+        ("10@20", "", "", "S2"),
+        ("R@30", "", "", "S4"),
+        ("11up@40", "", "", "S4"),
+        ("16@50", "は", "お", "S5"),
     ] },
 ];
