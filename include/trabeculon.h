@@ -16,6 +16,8 @@
  * Keys 0 to 4 are B01 to B05, 5 to 9 B06 to B10, 10 to 14 C01 to C05, 15 to 19
  * C06 to C10, 20 to 24 D01 to D05, 25 to 30 D06 to D11; so key 21 is D02. Their
  * faces are in docs/RULES.md.
+ *
+ * It is a header for C99 and later and for C++.
  */
 #ifndef TRABECULON_H
 #define TRABECULON_H
@@ -26,6 +28,71 @@
 #ifdef __cplusplus
 extern "C" {
 #endif
+
+/*
+ * The version of this interface. It counts the changes after which a host has
+ * to be looked at and compiled again: it goes up by 1 when what a function
+ * takes or answers changes, the fields of a struct, or what a number means, and
+ * stays where only words change or a function is added. Version 1 had no such
+ * macro. Version 2 has held keys (request 7/12) and a type for stamps.
+ */
+#define TRABECULON_VERSION 2
+
+/* The kinds of events, in a log and of a live keyboard. */
+#define TRABECULON_CHARACTER_DOWN 1
+#define TRABECULON_CHARACTER_UP 2
+#define TRABECULON_THUMB_DOWN 3
+#define TRABECULON_THUMB_UP 4
+#define TRABECULON_FUNCTION_DOWN 5
+#define TRABECULON_TICK 6
+
+/* The thumbs: the key of an event of kind 3 or 4, and a machine's thumb. */
+#define TRABECULON_LEFT 0
+#define TRABECULON_RIGHT 1
+
+/* The words of their marks. */
+#define TRABECULON_LEFT_MARK 1
+#define TRABECULON_RIGHT_MARK 2
+
+/* The states of a machine: see trabeculon_machine. */
+#define TRABECULON_S1 1
+#define TRABECULON_S2 2
+#define TRABECULON_S3 3
+#define TRABECULON_S4 4
+#define TRABECULON_S5 5
+#define TRABECULON_S6 6
+
+/*
+ * The numbers given back: 0, and the refusals. Each function gives some of
+ * them, in an order that is said there.
+ */
+#define TRABECULON_ACCEPTED 0
+#define TRABECULON_SETTINGS_OUT_OF_RANGE 1
+#define TRABECULON_NOT_WELL_FORMED 2
+#define TRABECULON_NOT_ALLOWED 3     /* kind or key */
+#define TRABECULON_STAMP_TOO_LARGE 4 /* above the largest */
+#define TRABECULON_STAMP_TOO_EARLY 5 /* before the last accepted one */
+#define TRABECULON_CUT 6             /* log empty, or header or body cut */
+#define TRABECULON_WRONG_RECORD 7    /* tag, length, or place of the settings */
+#define TRABECULON_NO_ROOM 8         /* the run is too short */
+#define TRABECULON_LOG_TOO_LONG 9    /* only in pieces */
+#define TRABECULON_ON_NO_FACE 10     /* a drill's character */
+#define TRABECULON_TOO_MANY_HELD 11  /* a new key while 6 are held */
+
+/*
+ * A moment of the keyboard's own clock, in milliseconds. It has a type of its
+ * own, so that a host's time, by a clock that has nothing to do with the
+ * keyboard's, does not compile where a stamp is wanted: no plain number does,
+ * and no other struct. A host makes a stamp where a number comes in from the
+ * keyboard, and nowhere else:
+ *
+ *     trabeculon_stamp stamp = {number};
+ *
+ * Tested: what does not compile (tests/c/clock.c).
+ */
+typedef struct {
+    uint64_t ms;
+} trabeculon_stamp;
 
 /*
  * What reading a log answers.
@@ -40,8 +107,9 @@ extern "C" {
  *          6  log empty, or a record's header or body cut
  *          7  tag unknown, length wrong, settings missing first or met again
  *          8  the record's words don't all fit into the run
+ *          11 a press of a new key while 6 are held: see trabeculon_step
  *          On each record they are tried in the order 6, 7, then 1 (settings)
- *          or 3, 4, 5 (event), then 8; the first that holds is given, and
+ *          or 3, 4, 5, 11 (event), then 8; the first that holds is given, and
  *          reading stops there.
  * waiting  how many characters wait after the last accepted record, 0 or 1; a
  *          key whose face is empty counts too. 0 if the log never opened. The
@@ -165,7 +233,8 @@ trabeculon_drill trabeculon_write_drill(uint16_t t, uint8_t j, uint8_t l,
  *   - On each event of the keyboard: trabeculon_step with the machine, the
  *     event and its stamp. The machine of the answer takes the place of the old
  *     one, whatever the number; a refused step hands back the one that was
- *     given.
+ *     given. Downs that the hardware repeats while a key is held are handed
+ *     over like all others.
  *   - Show: take the last sign on the screen back if backspace is 1; then add
  *     those of sent_first, sent_second and sent_third that are not 0.
  *   - The committed line grows by those of first and second that are not 0.
@@ -183,9 +252,10 @@ trabeculon_drill trabeculon_write_drill(uint16_t t, uint8_t j, uint8_t l,
  *     before it. No stamp may run ahead of the keyboard's clock, or the
  *     keyboard's next event comes before it and is refused 5.
  *
- * All stamps are milliseconds of the keyboard's own clock, never of the host's.
- * The host keeps the machine. Nothing is kept here between two calls, so any
- * number of keyboards can be driven side by side, each with its own machine.
+ * All stamps are of the keyboard's own clock, never of the host's; a host's
+ * time is no trabeculon_stamp. The host keeps the machine. Nothing is kept here
+ * between two calls, so any number of keyboards can be driven side by side,
+ * each with its own machine.
  *
  * Proved, of calls from opening on: each is answered as document 01 answers
  * that event (KeyboardFacts, keyboard/specs/KeyboardFacts.antt); the screen and
@@ -195,13 +265,16 @@ trabeculon_drill trabeculon_write_drill(uint16_t t, uint8_t j, uint8_t l,
  */
 
 /*
- * A machine as numbers: a keyboard's settings, its last accepted stamp and what
- * it waits with. M is a character key, O a thumb.
+ * A machine as numbers: a keyboard's settings, its last accepted stamp, the
+ * character keys that are held and what it waits with. M is a character key, O
+ * a thumb.
  *
  * last     the last accepted stamp; 0 in a fresh machine
  * m        when M was pressed: states 2, 4, 5, 6
  * o        when O was pressed: states 3, 4, 5, 6
  * r        when O was released: state 6
+ * held     bit k, counted from the lowest as bit 0, is 1 if key k is held: it
+ *          went down and not up since. 0 in a fresh machine
  * t, j, l, the settings T, J, L and solo, as trabeculon_open was given them
  * solo
  * state    1  nothing
@@ -218,27 +291,33 @@ trabeculon_drill trabeculon_write_drill(uint16_t t, uint8_t j, uint8_t l,
  * no machine are refused:
  *
  * They name a machine if state is 1 to 6, thumb is 0 or 1 in the states that
- * use it, and every one of m, o, r, key and thumb that the state does not use
- * is 0. That machine is well formed if the settings are in range, key is below
- * 31, every stamp that the state uses is at most last, last is at most
- * 1,000,000,000,000, and m <= o in state 4, o <= m in state 5, o <= m <= r in
- * state 6. Numbers that name no machine, or one that is not well formed, are
- * refused 2. The machine that trabeculon_open answers beside number 0 is well
- * formed, and an accepted event leaves every well-formed machine well formed,
- * however the host came by it; so numbers that were saved go on without a 2.
+ * use it, every one of m, o, r, key and thumb that the state does not use is 0,
+ * and held is below 2^32. That machine is well formed if the settings are in
+ * range, key is below 31, every stamp that the state uses is at most last, last
+ * is at most 1,000,000,000,000, m <= o in state 4, o <= m in state 5, o <= m <=
+ * r in state 6, and in held bits 31 and up are 0 and at most 6 are 1. Numbers
+ * that name no machine, or one that is not well formed, are refused 2. The
+ * machine that trabeculon_open answers beside number 0 is well formed, and an
+ * accepted event leaves every well-formed machine well formed, however the host
+ * came by it; so numbers that were saved go on without a 2. That M is held is
+ * not asked, but in every machine that calls from opening on lead to it is.
  *
- * It is 40 bytes with no padding, so two can be compared byte for byte.
+ * It is 48 bytes with no padding, so two can be compared byte for byte.
  *
  * Proved: every machine has one form in numbers, which names it (LosesNothing,
  * flat/specs/LosesNothing.antt); events keep it well formed (keeps-formed in
- * KeyboardFacts, keyboard/specs/KeyboardFacts.antt). Tested: the 40 bytes
- * (tests/c/live_keyboard.c).
+ * KeyboardFacts, keyboard/specs/KeyboardFacts.antt); held is a set of keys, and
+ * its ones are counted as keys (HeldFacts and CountsKeys,
+ * rules/specs/HeldFacts.antt); M is held, and at most 6 are, after any events
+ * from a fresh machine on (HeldInSequences, rules/specs/HeldRules.antt).
+ * Tested: the 48 bytes (below, and tests/c/live_keyboard.c).
  */
 typedef struct {
-    uint64_t last;
-    uint64_t m;
-    uint64_t o;
-    uint64_t r;
+    trabeculon_stamp last;
+    trabeculon_stamp m;
+    trabeculon_stamp o;
+    trabeculon_stamp r;
+    uint64_t held;
     uint16_t t;
     uint8_t j;
     uint8_t l;
@@ -280,6 +359,7 @@ trabeculon_opened trabeculon_open(uint16_t t, uint8_t j, uint8_t l, uint8_t solo
  *              3  kind or key not allowed
  *              4  stamp above the largest, 1,000,000,000,000
  *              5  stamp before the last accepted one
+ *              11 a press of a new key while 6 are held
  *              They are tried in this order; the first that holds is given.
  * items        how many items the event commits, 0 to 2. An item is a
  *              character, one whose face is empty too, or a mark.
@@ -319,17 +399,27 @@ typedef struct {
  * trabeculon_read_log accepts of a log commits the words that it writes, given
  * room for them all.
  *
+ * A character key is held from its down to its up, and nothing else lets go of
+ * it, a function key neither. A down of a key that is held already is a repeat
+ * of the hardware and no press. It does what a tick with that stamp does: what
+ * is due, and last moves; nothing else changes. So does an up of a key that is
+ * not held, say a second one, or one whose down was refused. A down of a key
+ * that is not held, while 6 others are, is refused 11, since a keyboard may
+ * ghost then; a repeat never is. Thumbs are not held in this sense.
+ *
  * Proved: step-numbers (keyboard/specs/Keyboard.antt) of step
- * (rules/specs/GivenBack.antt); when each number is given (Refusals,
- * rules/specs/Refusals.antt); that the numbers say that number and all that is
- * sent and committed (number-back, sendings-back and words-back in HostFacts,
- * keyboard/specs/HostScreen.antt); at most 2 items and 4 sendings (StepSizes,
- * rules/specs/StepFacts.antt). Of the words of a log: words-are in LogSequence
- * (keylog/specs/LogSequence.antt) and line-is in HostFacts both speak of the
- * line of the same events.
+ * (rules/specs/GivenBack.antt); when each number is given, 11 too (Refusals,
+ * rules/specs/Refusals.antt); that a repeat, and an up of a key not held, give
+ * what a tick gives, refusals too (ActsAsTick), and which keys an event leaves
+ * held (HeldAfterwards, both in rules/specs/HeldRules.antt); that the numbers
+ * say that number and all that is sent and committed (number-back,
+ * sendings-back and words-back in HostFacts, keyboard/specs/HostScreen.antt);
+ * at most 2 items and 4 sendings (StepSizes, rules/specs/StepFacts.antt). Of
+ * the words of a log: words-are in LogSequence (keylog/specs/LogSequence.antt)
+ * and line-is in HostFacts both speak of the line of the same events.
  */
 trabeculon_stepped trabeculon_step(trabeculon_machine machine, uint8_t kind,
-                                   uint8_t key, uint64_t stamp);
+                                   uint8_t key, trabeculon_stamp stamp);
 
 /*
  * What asking for the distance answers.
@@ -353,8 +443,8 @@ typedef struct {
 
 /*
  * Says how far the machine's next deadline is from a stamp of the keyboard's
- * clock. Never ask with a stamp of the host's clock: the two have nothing to do
- * with each other.
+ * clock. A host's own time has nothing to do with it, and is no
+ * trabeculon_stamp.
  *
  * While the answer for a stamp is positive, or that there is no deadline, a
  * tick with that stamp changes only the last stamp; at 0 or below it does what
@@ -366,7 +456,8 @@ typedef struct {
  * and that asking is refused as a tick is (DistanceNumbers,
  * keyboard/specs/DistanceNumbers.antt).
  */
-trabeculon_asked trabeculon_distance(trabeculon_machine machine, uint64_t stamp);
+trabeculon_asked trabeculon_distance(trabeculon_machine machine,
+                                     trabeculon_stamp stamp);
 
 /*
  * A log that arrives in pieces, of any size, even of no bytes: what its host
@@ -426,23 +517,23 @@ trabeculon_asked trabeculon_distance(trabeculon_machine machine, uint64_t stamp)
  * machine is, if it has one; 13 * words <= 2 * offset; offset + count is at
  * most 1,000,000,000,000; count is below the length that the record states,
  * 3 plus 256 times byte 1 plus byte 2, a byte that did not come counting 0;
- * and, if told is 1, number is 0, 1 or 3 to 9 and count is 0. Numbers that name
- * no reader, or one that is not well formed, are refused 2. The fresh reader is
- * well formed, and a call with a well-formed reader, however the host came by
- * it, hands back a well-formed one; so numbers that were saved go on without a
- * 2.
+ * and, if told is 1, number is 0, 1, 3 to 9 or 11 and count is 0. Numbers that
+ * name no reader, or one that is not well formed, are refused 2. The fresh
+ * reader is well formed, and a call with a well-formed reader, however the host
+ * came by it, hands back a well-formed one; so numbers that were saved go on
+ * without a 2.
  *
  * Bits of header, front and tail above the bytes that came say nothing, and a
  * call may leave any bits there. With count 4, say, these are the bits of
  * header from 24 on, those of front from 8 on, and all of tail.
  *
- * It is 96 bytes with no padding.
+ * It is 104 bytes with no padding.
  *
  * Proved: the numbers lose nothing of a reader and name it (ReadersBack,
  * host/specs/ReadersBack.antt, over reader-numbers and reader-named,
  * Readers.antt); which are well formed (formed, keylog/specs/Pieces.antt), and
  * that calls keep them so (piece-goes-on and end-goes-on in InPiecesFacts).
- * Tested: the 96 bytes (tests/c/read_pieces.c).
+ * Tested: the 104 bytes (below, and tests/c/read_pieces.c).
  */
 typedef struct {
     trabeculon_machine machine;
@@ -471,9 +562,9 @@ typedef struct {
  *                    that brings its last byte
  *                 9  the piece takes the log past 1,000,000,000,000 bytes; no
  *                    byte of it is read
- *                 1, 3, 4, 5 and 7 as trabeculon_read_log gives them. In a call
- *                 2 is tried first, then whether an answer is for good, then 9,
- *                 then the records as there.
+ *                 1, 3, 4, 5, 7 and 11 as trabeculon_read_log gives them. In a
+ *                 call 2 is tried first, then whether an answer is for good,
+ *                 then 9, then the records as there.
  * answer.waiting  how many characters wait after the last accepted record, 0 or
  *                 1; beside 2: 0
  * answer.words    how many words were written, in all pieces; beside 2: 0
@@ -481,7 +572,7 @@ typedef struct {
  *                 start; beside 0 the bytes so far, beside 9
  *                 1,000,000,000,000, beside 2: 0
  *
- * It is 120 bytes with no padding.
+ * It is 128 bytes with no padding.
  */
 typedef struct {
     trabeculon_reader reader;
@@ -531,6 +622,29 @@ trabeculon_piece_read trabeculon_reader_piece(trabeculon_reader reader,
  * end, keylog/specs/Pieces.antt).
  */
 trabeculon_piece_read trabeculon_reader_end(trabeculon_reader reader);
+
+/*
+ * The structs are as large here as in the library, or this does not compile.
+ * Before C11 and C++11 a row of less than no bytes says so.
+ */
+#if defined(__cplusplus) && __cplusplus >= 201103L
+#define TRABECULON_SIZE(type, size) static_assert(sizeof(type) == (size), #type)
+#elif defined(__STDC_VERSION__) && __STDC_VERSION__ >= 201112L
+#define TRABECULON_SIZE(type, size) _Static_assert(sizeof(type) == (size), #type)
+#else
+#define TRABECULON_SIZE(type, size) \
+    typedef char type##_size[sizeof(type) == (size) ? 1 : -1]
+#endif
+TRABECULON_SIZE(trabeculon_stamp, 8);
+TRABECULON_SIZE(trabeculon_answer, 24);
+TRABECULON_SIZE(trabeculon_drill, 24);
+TRABECULON_SIZE(trabeculon_machine, 48);
+TRABECULON_SIZE(trabeculon_opened, 56);
+TRABECULON_SIZE(trabeculon_stepped, 72);
+TRABECULON_SIZE(trabeculon_asked, 16);
+TRABECULON_SIZE(trabeculon_reader, 104);
+TRABECULON_SIZE(trabeculon_piece_read, 128);
+#undef TRABECULON_SIZE
 
 #ifdef __cplusplus
 }

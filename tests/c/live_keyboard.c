@@ -1,10 +1,11 @@
 /*
  * Drives a live keyboard through include/trabeculon.h as a C host would: document
- * 01's P1, P4 and P9 and request 4/12's keystrokes (slow) event by event, with a
- * screen on which a backspace takes the last sign back, and the distance to the
- * deadline after each event. Then every refusal. Checks every number of every
- * answer. Prints what was sent, a backspace as <-, and the screen after each event,
- * and one line per check; exits 1 if one failed.
+ * 01's P1, P4 and P9, request 4/12's keystrokes (slow) and a letter that is held
+ * (7/12) event by event, with a screen on which a backspace takes the last sign back,
+ * and the distance to the deadline after each event. Then every refusal, and keys
+ * that are held. Checks every number of every answer. Prints what was sent, a
+ * backspace as <-, and the screen after each event, and one line per check; exits 1
+ * if one failed.
  */
 #include "trabeculon.h"
 
@@ -18,19 +19,41 @@
 /* Words: ka (key 21) and ga (key 21 with the right thumb), the right mark. */
 #define KA 0x304B
 #define GA 0x304C
-#define RIGHT_MARK 2
+#define RIGHT_MARK TRABECULON_RIGHT_MARK
 /* Stands among the sent signs for a backspace; no word has this value. */
 #define BACKSPACE 0xFFFF
 /* Stands for the distance of a machine that has no deadline. */
 #define NO_DEADLINE INT64_MIN
 
-enum { CHARACTER_DOWN = 1, CHARACTER_UP, THUMB_DOWN, THUMB_UP, FUNCTION, TICK };
+enum {
+    CHARACTER_DOWN = TRABECULON_CHARACTER_DOWN,
+    CHARACTER_UP = TRABECULON_CHARACTER_UP,
+    THUMB_DOWN = TRABECULON_THUMB_DOWN,
+    THUMB_UP = TRABECULON_THUMB_UP,
+    FUNCTION = TRABECULON_FUNCTION_DOWN,
+    TICK = TRABECULON_TICK,
+    RIGHT = TRABECULON_RIGHT,
+    S1 = TRABECULON_S1,
+    S2 = TRABECULON_S2,
+    S3 = TRABECULON_S3,
+    S4 = TRABECULON_S4,
+    S5 = TRABECULON_S5,
+    S6 = TRABECULON_S6
+};
 
-_Static_assert(sizeof(trabeculon_machine) == 40, "a machine has no padding");
-_Static_assert(sizeof(trabeculon_opened) == 48, "an opened machine has no padding");
-_Static_assert(sizeof(trabeculon_stepped) == 64, "a step has padding at its end only");
-_Static_assert(offsetof(trabeculon_stepped, sent_third) == 58, "none before the end");
-_Static_assert(sizeof(trabeculon_asked) == 16, "a distance has no padding");
+#if TRABECULON_VERSION != 2
+#error "this host is for version 2"
+#endif
+
+/* A held set with one key in it. */
+#define HELD(key) (UINT64_C(1) << (key))
+
+/* The header checks the sizes. */
+_Static_assert(sizeof(trabeculon_machine) == 6 * 8, "a machine has no padding");
+_Static_assert(offsetof(trabeculon_machine, held) == 32, "it lies behind the stamps");
+_Static_assert(offsetof(trabeculon_machine, thumb) == 47, "none before the end");
+_Static_assert(offsetof(trabeculon_opened, number) == 48, "an opened machine has no padding");
+_Static_assert(offsetof(trabeculon_stepped, sent_third) == 66, "padding at its end only");
 
 static int failures = 0;
 
@@ -122,64 +145,98 @@ typedef struct {
 
 static const line P1[] = {
     {"P1, 21@0", CHARACTER_DOWN, 21, 0, 0, {0, 0}, 0, {KA, 0, 0},
-     {.state = 2, .key = 21, .m = 0}, 100},
+     {.state = S2, .key = 21, .held = HELD(21), .m = {0}}, 100},
     {"P1, tick 99", TICK, 0, 99, 0, {0, 0}, 0, {0, 0, 0},
-     {.state = 2, .key = 21, .m = 0}, 1},
+     {.state = S2, .key = 21, .held = HELD(21), .m = {0}}, 1},
     {"P1, tick 100", TICK, 0, 100, 1, {KA, 0}, 0, {0, 0, 0},
-     {.state = 1}, NO_DEADLINE},
+     {.state = S1, .held = HELD(21)}, NO_DEADLINE},
 };
 
 static const line P4[] = {
     {"P4, 21@0", CHARACTER_DOWN, 21, 0, 0, {0, 0}, 0, {KA, 0, 0},
-     {.state = 2, .key = 21, .m = 0}, 100},
-    {"P4, R@30", THUMB_DOWN, 1, 30, 0, {0, 0}, 0, {0, 0, 0},
-     {.state = 4, .key = 21, .m = 0, .thumb = 1, .o = 30}, 30},
+     {.state = S2, .key = 21, .held = HELD(21), .m = {0}}, 100},
+    {"P4, R@30", THUMB_DOWN, RIGHT, 30, 0, {0, 0}, 0, {0, 0, 0},
+     {.state = S4, .key = 21, .held = HELD(21), .m = {0}, .thumb = RIGHT, .o = {30}}, 30},
     {"P4, 21 up@60", CHARACTER_UP, 21, 60, 1, {GA, 0}, 1, {GA, 0, 0},
-     {.state = 1}, NO_DEADLINE},
+     {.state = S1}, NO_DEADLINE},
 };
 
 static const line P9[] = {
-    {"P9, R@0", THUMB_DOWN, 1, 0, 0, {0, 0}, 0, {0, 0, 0},
-     {.state = 3, .thumb = 1, .o = 0}, 100},
+    {"P9, R@0", THUMB_DOWN, RIGHT, 0, 0, {0, 0}, 0, {0, 0, 0},
+     {.state = S3, .thumb = RIGHT, .o = {0}}, 100},
     {"P9, 21@40", CHARACTER_DOWN, 21, 40, 0, {0, 0}, 0, {GA, 0, 0},
-     {.state = 5, .key = 21, .m = 40, .thumb = 1, .o = 0}, 40},
-    {"P9, R up@60", THUMB_UP, 1, 60, 0, {0, 0}, 0, {0, 0, 0},
-     {.state = 6, .key = 21, .m = 40, .thumb = 1, .o = 0, .r = 60}, 20},
+     {.state = S5, .key = 21, .held = HELD(21), .m = {40}, .thumb = RIGHT, .o = {0}}, 40},
+    {"P9, R up@60", THUMB_UP, RIGHT, 60, 0, {0, 0}, 0, {0, 0, 0},
+     {.state = S6, .key = 21, .held = HELD(21), .m = {40}, .thumb = RIGHT, .o = {0}, .r = {60}},
+     20},
     {"P9, tick 79", TICK, 0, 79, 0, {0, 0}, 0, {0, 0, 0},
-     {.state = 6, .key = 21, .m = 40, .thumb = 1, .o = 0, .r = 60}, 1},
+     {.state = S6, .key = 21, .held = HELD(21), .m = {40}, .thumb = RIGHT, .o = {0}, .r = {60}}, 1},
     {"P9, tick 80", TICK, 0, 80, 2, {RIGHT_MARK, KA}, 1, {RIGHT_MARK, KA, 0},
-     {.state = 1}, NO_DEADLINE},
+     {.state = S1, .held = HELD(21)}, NO_DEADLINE},
 };
 
 static const line SLOW_899[] = {
     {"slow, 21@0", CHARACTER_DOWN, 21, 0, 0, {0, 0}, 0, {KA, 0, 0},
-     {.state = 2, .key = 21, .m = 0}, 1000},
-    {"slow, R@500", THUMB_DOWN, 1, 500, 0, {0, 0}, 0, {0, 0, 0},
-     {.state = 4, .key = 21, .m = 0, .thumb = 1, .o = 500}, 500},
+     {.state = S2, .key = 21, .held = HELD(21), .m = {0}}, 1000},
+    {"slow, R@500", THUMB_DOWN, RIGHT, 500, 0, {0, 0}, 0, {0, 0, 0},
+     {.state = S4, .key = 21, .held = HELD(21), .m = {0}, .thumb = RIGHT, .o = {500}}, 500},
     {"slow, 21 up@899", CHARACTER_UP, 21, 899, 1, {KA, 0}, 0, {0, 0, 0},
-     {.state = 3, .thumb = 1, .o = 500}, NO_DEADLINE},
+     {.state = S3, .thumb = RIGHT, .o = {500}}, NO_DEADLINE},
 };
 
 static const line SLOW_900[] = {
     {"slow, 21@0", CHARACTER_DOWN, 21, 0, 0, {0, 0}, 0, {KA, 0, 0},
-     {.state = 2, .key = 21, .m = 0}, 1000},
-    {"slow, R@500", THUMB_DOWN, 1, 500, 0, {0, 0}, 0, {0, 0, 0},
-     {.state = 4, .key = 21, .m = 0, .thumb = 1, .o = 500}, 500},
+     {.state = S2, .key = 21, .held = HELD(21), .m = {0}}, 1000},
+    {"slow, R@500", THUMB_DOWN, RIGHT, 500, 0, {0, 0}, 0, {0, 0, 0},
+     {.state = S4, .key = 21, .held = HELD(21), .m = {0}, .thumb = RIGHT, .o = {500}}, 500},
     {"slow, 21 up@900", CHARACTER_UP, 21, 900, 1, {GA, 0}, 1, {GA, 0, 0},
-     {.state = 1}, NO_DEADLINE},
+     {.state = S1}, NO_DEADLINE},
 };
 
 /* With solo 1 the thumb that stays has a deadline, by its old stamp. */
 static const line SLOW_SOLO[] = {
     {"slow, 21@0", CHARACTER_DOWN, 21, 0, 0, {0, 0}, 0, {KA, 0, 0},
-     {.state = 2, .key = 21, .m = 0}, 1000},
-    {"slow, R@500", THUMB_DOWN, 1, 500, 0, {0, 0}, 0, {0, 0, 0},
-     {.state = 4, .key = 21, .m = 0, .thumb = 1, .o = 500}, 500},
+     {.state = S2, .key = 21, .held = HELD(21), .m = {0}}, 1000},
+    {"slow, R@500", THUMB_DOWN, RIGHT, 500, 0, {0, 0}, 0, {0, 0, 0},
+     {.state = S4, .key = 21, .held = HELD(21), .m = {0}, .thumb = RIGHT, .o = {500}}, 500},
     {"slow, 21 up@899", CHARACTER_UP, 21, 899, 1, {KA, 0}, 0, {0, 0, 0},
-     {.state = 3, .thumb = 1, .o = 500}, 601},
+     {.state = S3, .thumb = RIGHT, .o = {500}}, 601},
     {"slow, tick 1500", TICK, 0, 1500, 1, {RIGHT_MARK, 0}, 0, {RIGHT_MARK, 0, 0},
-     {.state = 1}, NO_DEADLINE},
+     {.state = S1}, NO_DEADLINE},
 };
+
+/* A letter is held, and the hardware repeats its down; then it is pressed again. A
+ * function key between lets go of nothing, and an up that comes alone does nothing. */
+static const line REPEATS[] = {
+    {"held, 24 up@0", CHARACTER_UP, 24, 0, 0, {0, 0}, 0, {0, 0, 0},
+     {.state = S1}, NO_DEADLINE},
+    {"held, 21@7", CHARACTER_DOWN, 21, 7, 0, {0, 0}, 0, {KA, 0, 0},
+     {.state = S2, .key = 21, .held = HELD(21), .m = {7}}, 100},
+    {"held, 21@106", CHARACTER_DOWN, 21, 106, 0, {0, 0}, 0, {0, 0, 0},
+     {.state = S2, .key = 21, .held = HELD(21), .m = {7}}, 1},
+    {"held, 24 up@106", CHARACTER_UP, 24, 106, 0, {0, 0}, 0, {0, 0, 0},
+     {.state = S2, .key = 21, .held = HELD(21), .m = {7}}, 1},
+    {"held, 21@107", CHARACTER_DOWN, 21, 107, 1, {KA, 0}, 0, {0, 0, 0},
+     {.state = S1, .held = HELD(21)}, NO_DEADLINE},
+    {"held, 21@500", CHARACTER_DOWN, 21, 500, 0, {0, 0}, 0, {0, 0, 0},
+     {.state = S1, .held = HELD(21)}, NO_DEADLINE},
+    {"held, F@510", FUNCTION, 0, 510, 0, {0, 0}, 0, {0, 0, 0},
+     {.state = S1, .held = HELD(21)}, NO_DEADLINE},
+    {"held, 21@530", CHARACTER_DOWN, 21, 530, 0, {0, 0}, 0, {0, 0, 0},
+     {.state = S1, .held = HELD(21)}, NO_DEADLINE},
+    {"held, 21 up@540", CHARACTER_UP, 21, 540, 0, {0, 0}, 0, {0, 0, 0},
+     {.state = S1}, NO_DEADLINE},
+    {"held, 21@550", CHARACTER_DOWN, 21, 550, 0, {0, 0}, 0, {KA, 0, 0},
+     {.state = S2, .key = 21, .held = HELD(21), .m = {550}}, 100},
+    {"held, 21 up@560", CHARACTER_UP, 21, 560, 1, {KA, 0}, 0, {0, 0, 0},
+     {.state = S1}, NO_DEADLINE},
+};
+
+/* A number of the keyboard's clock comes in. */
+static trabeculon_stamp at(uint64_t ms) {
+    trabeculon_stamp stamp = {ms};
+    return stamp;
+}
 
 static trabeculon_machine with_settings(trabeculon_machine m, uint16_t t, uint8_t solo) {
     m.t = t;
@@ -195,7 +252,7 @@ static trabeculon_machine fresh(uint16_t t, uint8_t solo) {
 
 static void check_distance(const char *name, trabeculon_machine machine, uint64_t stamp,
                            int64_t want) {
-    trabeculon_asked got = trabeculon_distance(machine, stamp);
+    trabeculon_asked got = trabeculon_distance(machine, at(stamp));
     if (want == NO_DEADLINE) {
         report(name, "no deadline", got.number == 0 && got.deadline == 0 && got.milliseconds == 0);
     } else {
@@ -206,12 +263,12 @@ static void check_distance(const char *name, trabeculon_machine machine, uint64_
 
 static void check_line(host *h, const line *want, uint16_t t, uint8_t solo) {
     trabeculon_machine after = with_settings(want->machine, t, solo);
-    after.last = want->stamp;
+    after.last = at(want->stamp);
 
-    trabeculon_stepped got = trabeculon_step(h->machine, want->kind, want->key, want->stamp);
+    trabeculon_stepped got = trabeculon_step(h->machine, want->kind, want->key, after.last);
     h->machine = got.machine;
     show(h, got);
-    trabeculon_asked asked = trabeculon_distance(h->machine, want->stamp);
+    trabeculon_asked asked = trabeculon_distance(h->machine, after.last);
 
     printf("%-15s", want->name);
     print_run(" sent: ", &h->sent);
@@ -256,13 +313,15 @@ static void check_runs(void) {
               (uint16_t[]){KA, BACKSPACE, GA, 0}, (uint16_t[]){GA, 0});
     check_run("slow, solo 1", SLOW_SOLO, sizeof SLOW_SOLO / sizeof SLOW_SOLO[0], 1000, 1,
               (uint16_t[]){KA, RIGHT_MARK, 0}, (uint16_t[]){KA, RIGHT_MARK, 0});
+    check_run("held", REPEATS, sizeof REPEATS / sizeof REPEATS[0], 100, 0,
+              (uint16_t[]){KA, KA, 0}, (uint16_t[]){KA, KA, 0});
 }
 
 /* ---- Opening ---- */
 
 static void check_open(const char *name, uint16_t t, uint8_t j, uint8_t l, uint8_t solo,
                        uint64_t number) {
-    trabeculon_machine opened = {.t = t, .j = j, .l = l, .solo = solo, .state = 1};
+    trabeculon_machine opened = {.t = t, .j = j, .l = l, .solo = solo, .state = S1};
     trabeculon_machine none = {0};
     trabeculon_opened got = trabeculon_open(t, j, l, solo);
     report(name, "number", got.number == number);
@@ -291,7 +350,7 @@ static void check_opening(void) {
 /* A refused step commits and sends nothing and hands the machine back as given. */
 static void check_refused(const char *name, trabeculon_machine machine, uint8_t kind,
                           uint8_t key, uint64_t stamp, uint32_t number) {
-    trabeculon_stepped got = trabeculon_step(machine, kind, key, stamp);
+    trabeculon_stepped got = trabeculon_step(machine, kind, key, at(stamp));
     report(name, "number", got.number == number);
     report(name, "nothing committed or sent",
            got.items == 0 && got.first == 0 && got.second == 0 && got.backspace == 0
@@ -301,23 +360,24 @@ static void check_refused(const char *name, trabeculon_machine machine, uint8_t 
 
 static void check_not_asked(const char *name, trabeculon_machine machine, uint64_t stamp,
                             uint32_t number) {
-    trabeculon_asked got = trabeculon_distance(machine, stamp);
+    trabeculon_asked got = trabeculon_distance(machine, at(stamp));
     report(name, "distance refused",
            got.number == number && got.deadline == 0 && got.milliseconds == 0);
 }
 
 /* Refused 2 before anything else, whatever the event and the stamp are. */
 static void check_no_machine(const char *name, trabeculon_machine machine) {
-    check_refused(name, machine, TICK, 0, machine.last, 2);
+    check_refused(name, machine, TICK, 0, machine.last.ms, 2);
     check_refused(name, machine, 9, 99, UINT64_MAX, 2);
-    check_not_asked(name, machine, machine.last, 2);
+    check_not_asked(name, machine, machine.last.ms, 2);
     check_not_asked(name, machine, UINT64_MAX, 2);
     check_not_asked(name, machine, 0, 2);
 }
 
 /* Key 21 pressed at 1000, nothing since. */
 static const trabeculon_machine WAITING = {
-    .last = 1000, .m = 1000, .t = 100, .j = 50, .l = 50, .solo = 1, .state = 2, .key = 21,
+    .last = {1000}, .m = {1000}, .held = HELD(21), .t = 100, .j = 50, .l = 50, .solo = 1,
+    .state = S2, .key = 21,
 };
 
 static void check_states(void) {
@@ -328,24 +388,24 @@ static void check_states(void) {
     m.state = 7;
     check_no_machine("state 7", m);
     m = WAITING;
-    m.thumb = 1;
+    m.thumb = RIGHT;
     check_no_machine("a thumb in state 2", m);
     m = WAITING;
-    m.r = UINT64_MAX;
+    m.r = at(UINT64_MAX);
     check_no_machine("a release in state 2", m);
     m = WAITING;
-    m.state = 4;
-    m.o = 1000;
+    m.state = S4;
+    m.o = at(1000);
     m.thumb = 2;
     check_no_machine("thumb 2", m);
     m = WAITING;
     m.key = 31;
     check_no_machine("key 31", m);
     m = WAITING;
-    m.m = 1001;
+    m.m = at(1001);
     check_no_machine("pressed after the last stamp", m);
     m = WAITING;
-    m.last = LARGEST + 1;
+    m.last = at(LARGEST + 1);
     check_no_machine("last stamp too large", m);
     m = WAITING;
     m.t = 1001;
@@ -356,15 +416,41 @@ static void check_states(void) {
     m.solo = 2;
     check_no_machine("solo 2", m);
     m = WAITING;
-    m.state = 5;
-    m.m = 900;
-    m.o = 901;
+    m.state = S5;
+    m.m = at(900);
+    m.o = at(901);
     check_no_machine("out of order", m);
 }
 
+/* Bits 31 and up are 0, and at most 6 are 1. */
+static void check_held_sets(void) {
+    static const uint64_t good[] = {0, HELD(0), HELD(30), 0x3F, 0x7E000000};
+    static const uint64_t bad[] = {
+        HELD(31), HELD(21) | HELD(31), 0xFC000000, /* bit 31 */
+        0x7F, 0x7F000000, 0x7FFFFFFF,              /* more than six */
+        HELD(32), HELD(21) | HELD(32), HELD(63), UINT64_MAX << 32, UINT64_MAX,
+    };
+    char name[40];
+    for (size_t i = 0; i < sizeof good / sizeof good[0]; i++) {
+        trabeculon_machine m = WAITING;
+        m.held = good[i];
+        snprintf(name, sizeof name, "held %" PRIX64, m.held);
+        check_distance(name, m, 1000, 100);
+        trabeculon_stepped got = trabeculon_step(m, TICK, 0, at(1001));
+        m.last = at(1001);
+        report(name, "accepted", got.number == 0 && same_machine(got.machine, m));
+    }
+    for (size_t i = 0; i < sizeof bad / sizeof bad[0]; i++) {
+        trabeculon_machine m = WAITING;
+        m.held = bad[i];
+        snprintf(name, sizeof name, "held %" PRIX64, m.held);
+        check_no_machine(name, m);
+    }
+}
+
 static void check_accepted(const char *name, uint8_t kind, uint8_t key, uint64_t stamp) {
-    trabeculon_stepped got = trabeculon_step(WAITING, kind, key, stamp);
-    report(name, "accepted", got.number == 0 && got.machine.last == stamp);
+    trabeculon_stepped got = trabeculon_step(WAITING, kind, key, at(stamp));
+    report(name, "accepted", got.number == 0 && got.machine.last.ms == stamp);
 }
 
 static void check_events(void) {
@@ -387,7 +473,7 @@ static void check_events(void) {
  * machine; so 4 and 5 are tried one by one, also with the largest last stamp. */
 static void check_distances(void) {
     trabeculon_machine end = WAITING, slow = WAITING;
-    end.last = LARGEST;
+    end.last = at(LARGEST);
     slow.t = 1000;
     slow.j = 1;
     check_distance("still to wait", WAITING, 1000, 100);
@@ -407,11 +493,100 @@ static void check_distances(void) {
     check_not_asked("the largest last stamp, one less", end, LARGEST - 1, 5);
 }
 
+/* ---- Keys that are held ---- */
+
+/* What a tick with this stamp gives, refusals too. */
+static void check_as_tick(const char *name, trabeculon_machine machine, uint8_t kind, uint8_t key,
+                          uint64_t stamp) {
+    trabeculon_stepped got = trabeculon_step(machine, kind, key, at(stamp));
+    trabeculon_stepped tick = trabeculon_step(machine, TICK, 0, at(stamp));
+    report(name, "as a tick",
+           same_machine(got.machine, tick.machine) && got.number == tick.number
+               && got.items == tick.items && got.first == tick.first && got.second == tick.second
+               && got.backspace == tick.backspace && got.sent_first == tick.sent_first
+               && got.sent_second == tick.sent_second && got.sent_third == tick.sent_third);
+}
+
+/* Of a machine whose last stamp is 1000: one before it, at it, before and at the
+ * deadline, long after, and too large. */
+static void check_as_ticks(const char *name, trabeculon_machine machine, uint8_t kind,
+                           uint8_t key) {
+    const uint64_t stamps[] = {999, 1000, 1099, 1100, 5000, LARGEST + 1};
+    for (size_t i = 0; i < sizeof stamps / sizeof stamps[0]; i++) {
+        check_as_tick(name, machine, kind, key, stamps[i]);
+    }
+}
+
+static trabeculon_machine pressed(trabeculon_machine machine, uint8_t key, uint64_t stamp) {
+    trabeculon_stepped got = trabeculon_step(machine, CHARACTER_DOWN, key, at(stamp));
+    report("a finger goes down", "accepted and held",
+           got.number == TRABECULON_ACCEPTED && got.machine.held == (machine.held | HELD(key)));
+    return got.machine;
+}
+
+/* Keys 0 to 4, and 30, which waits. */
+static trabeculon_machine six_fingers(void) {
+    trabeculon_machine m = fresh(100, 1);
+    for (uint8_t key = 0; key < 5; key++) {
+        m = pressed(m, key, 1000);
+    }
+    return pressed(m, 30, 1000);
+}
+
+static void check_seventh(trabeculon_machine six) {
+    report("six fingers", "held", six.held == (0x1F | HELD(30)) && six.state == S2);
+    check_refused("a seventh key", six, CHARACTER_DOWN, 21, 1000, TRABECULON_TOO_MANY_HELD);
+    check_refused("a seventh key, when 30 is due", six, CHARACTER_DOWN, 21, 1100, 11);
+    check_refused("a seventh key, largest stamp", six, CHARACTER_DOWN, 21, LARGEST, 11);
+    check_refused("key 31 after six", six, CHARACTER_DOWN, 31, 1000, TRABECULON_NOT_ALLOWED);
+    check_refused("a seventh key, stamp too large", six, CHARACTER_DOWN, 21, LARGEST + 1,
+                  TRABECULON_STAMP_TOO_LARGE);
+    check_refused("a seventh key, stamp too early", six, CHARACTER_DOWN, 21, 999,
+                  TRABECULON_STAMP_TOO_EARLY);
+    check_as_ticks("a repeat of the waiting key", six, CHARACTER_DOWN, 30);
+    check_as_ticks("a repeat of an earlier key", six, CHARACTER_DOWN, 0);
+    check_as_ticks("an up of the refused key", six, CHARACTER_UP, 21);
+}
+
+/* A function key lets go of none; an up of one makes room. */
+static void check_let_go(trabeculon_machine six) {
+    trabeculon_stepped got = trabeculon_step(six, FUNCTION, 0, at(1010));
+    report("function", "none let go", got.number == 0 && got.machine.held == six.held);
+    check_refused("a seventh key after a function key", got.machine, CHARACTER_DOWN, 21, 1010, 11);
+    got = trabeculon_step(six, CHARACTER_UP, 0, at(1010));
+    report("an earlier key goes up", "let go, and 30 still waits",
+           got.number == 0 && got.items == 0 && got.machine.held == (0x1E | HELD(30))
+               && got.machine.state == S2);
+    pressed(got.machine, 21, 1010);
+}
+
+/* Made by hand: 21 waits and is not held. Its up is a tick, its down a press. */
+static void check_not_held(void) {
+    trabeculon_machine m = WAITING;
+    m.held = 0;
+    check_as_ticks("an up of a waiting key not held", m, CHARACTER_UP, 21);
+    trabeculon_stepped got = trabeculon_step(m, CHARACTER_DOWN, 21, at(1010));
+    report("a down of a waiting key not held", "a press",
+           got.number == 0 && got.items == 1 && got.first == KA && got.sent_first == KA
+               && got.machine.m.ms == 1010 && got.machine.held == HELD(21));
+    m.held = 0x3F;
+    check_refused("a waiting key is a seventh", m, CHARACTER_DOWN, 21, 1010, 11);
+}
+
+static void check_held(void) {
+    trabeculon_machine six = six_fingers();
+    check_seventh(six);
+    check_let_go(six);
+    check_not_held();
+}
+
 int main(void) {
     check_runs();
     check_opening();
     check_states();
+    check_held_sets();
     check_events();
+    check_held();
     check_distances();
     printf("%d failed\n", failures);
     return failures == 0 ? 0 : 1;

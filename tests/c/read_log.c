@@ -53,7 +53,34 @@ static const uint8_t SLOW[SLOW_LEN] = {
 static const uint8_t KA[2] = {0x30, 0x4B};
 static const uint8_t GA[2] = {0x30, 0x4C};
 
-_Static_assert(sizeof(trabeculon_answer) == 24, "the answer has no padding");
+/* Request 7/12: a letter is held until it repeats, goes up and is pressed again. */
+static const uint8_t HELD[99] = {
+    1, 0, 5,  0, 100, 50, 50, 0,                 /* T=100, J=L=50, solo 0 */
+    2, 0, 10, 2, 24, 0, 0, 0, 0, 0, 0, 0, 0,     /* at   8: 24 up @0, not held */
+    2, 0, 10, 1, 21, 0, 0, 0, 0, 0, 0, 0, 0,     /* at  21: 21 down @0 */
+    2, 0, 10, 1, 21, 0, 0, 0, 0, 0, 0, 1, 244,   /* at  34: 21 down @500, a repeat */
+    2, 0, 10, 1, 21, 0, 0, 0, 0, 0, 0, 2, 21,    /* at  47: 21 down @533, a repeat */
+    2, 0, 10, 2, 21, 0, 0, 0, 0, 0, 0, 2, 88,    /* at  60: 21 up @600 */
+    2, 0, 10, 1, 21, 0, 0, 0, 0, 0, 0, 2, 188,   /* at  73: 21 down @700 */
+    2, 0, 10, 2, 21, 0, 0, 0, 0, 0, 0, 2, 238,   /* at  86: 21 up @750 */
+};
+static const uint8_t KA_TWICE[4] = {0x30, 0x4B, 0x30, 0x4B};
+
+/* Six keys are held, and what waits is due when a seventh is pressed. */
+#define SEVEN_LEN 112
+static const uint8_t SEVEN[SEVEN_LEN] = {
+    1, 0, 5,  0, 100, 50, 50, 0,                 /* T=100, J=L=50, solo 0 */
+    2, 0, 10, 1, 10, 0, 0, 0, 0, 0, 0, 0, 0,     /* at   8: 10 down @0 */
+    2, 0, 10, 1, 11, 0, 0, 0, 0, 0, 0, 0, 0,     /* at  21: 11 down @0 */
+    2, 0, 10, 1, 12, 0, 0, 0, 0, 0, 0, 0, 0,     /* at  34: 12 down @0 */
+    2, 0, 10, 1, 13, 0, 0, 0, 0, 0, 0, 0, 0,     /* at  47: 13 down @0 */
+    2, 0, 10, 1, 14, 0, 0, 0, 0, 0, 0, 0, 0,     /* at  60: 14 down @0 */
+    2, 0, 10, 1, 15, 0, 0, 0, 0, 0, 0, 0, 0,     /* at  73: 15 down @0 */
+    2, 0, 10, 1, 15, 0, 0, 0, 0, 0, 0, 0, 50,    /* at  86: 15 down @50, a repeat */
+    2, 0, 10, 1, 16, 0, 0, 0, 0, 0, 0, 0, 100,   /* at  99: 16 down @100 */
+};
+/* The five that were committed: U+3046, U+3057, U+3066, U+3051, U+305B. */
+static const uint8_t FIVE[10] = {0x30, 0x46, 0x30, 0x57, 0x30, 0x66, 0x30, 0x51, 0x30, 0x5B};
 
 static int failures = 0;
 
@@ -132,10 +159,33 @@ static void check_slow(const char *name, uint8_t last_byte, const uint8_t *words
     check_log(name, log, SLOW_LEN, words, 32, want);
 }
 
+/* The log of a seventh key, its last record with one byte changed. */
+static void check_seven(const char *name, size_t place, uint8_t value, size_t run_len,
+                        trabeculon_answer want) {
+    uint8_t log[SEVEN_LEN];
+    memcpy(log, SEVEN, SEVEN_LEN);
+    log[99 + place] = value;
+    check_log(name, log, SEVEN_LEN, FIVE, run_len, want);
+}
+
 static trabeculon_answer answer(uint32_t number, uint64_t words, uint64_t offset,
                                 uint32_t waiting) {
     trabeculon_answer a = {number, waiting, words, offset};
     return a;
+}
+
+/* 11 comes after 6, 7, 3, 4 and 5, and before 8: the sixth word doesn't fit. */
+static void check_held(void) {
+    check_log("a letter that repeats", HELD, sizeof HELD, KA_TWICE, 32, answer(0, 2, 99, 0));
+    check_log("a seventh key", SEVEN, SEVEN_LEN, FIVE, 32, answer(11, 5, 99, 1));
+    check_log("a seventh key, no more room", SEVEN, SEVEN_LEN, FIVE, 10, answer(11, 5, 99, 1));
+    check_log("too little room before it", SEVEN, SEVEN_LEN, FIVE, 8, answer(8, 4, 73, 1));
+    check_log("a seventh key, cut", SEVEN, SEVEN_LEN - 1, FIVE, 10, answer(6, 5, 99, 1));
+    check_seven("a seventh key, tag damaged", 0, 9, 10, answer(7, 5, 99, 1));
+    check_seven("key 31 after six", 4, 31, 10, answer(3, 5, 99, 1));
+    check_seven("a seventh key, stamp too large", 5, 1, 10, answer(4, 5, 99, 1));
+    check_seven("a seventh key, stamp too early", 12, 49, 10, answer(5, 5, 99, 1));
+    check_seven("a repeat, no more room", 4, 15, 10, answer(8, 5, 99, 1));
 }
 
 int main(void) {
@@ -167,6 +217,7 @@ int main(void) {
     check_damaged("key damaged", 77, 2, answer(3, 2, 73, 1));
     check_damaged("stamp too large", 78, 1, answer(4, 2, 73, 1));
     check_damaged("stamp too early", 85, 199, answer(5, 2, 73, 1));
+    check_held();
     printf("%d failed\n", failures);
     return failures == 0 ? 0 : 1;
 }

@@ -17,8 +17,10 @@
 #define UNTOUCHED 0xA5
 #define LONGEST_LOG 1000000000000u
 
-_Static_assert(sizeof(trabeculon_reader) == 96, "a reader has no padding");
-_Static_assert(sizeof(trabeculon_piece_read) == 120, "its answer has no padding");
+/* The header checks the sizes; there is no padding where these lie as they do. */
+_Static_assert(offsetof(trabeculon_reader, offset) == 48, "the machine comes first");
+_Static_assert(offsetof(trabeculon_reader, number) == 100, "a reader has no padding");
+_Static_assert(offsetof(trabeculon_piece_read, answer) == 104, "its answer neither");
 
 /* The words of the log: U+3055, U+3044, U+304C, U+3044. */
 static const uint8_t WORDS[8] = {0x30, 0x55, 0x30, 0x44, 0x30, 0x4C, 0x30, 0x44};
@@ -184,6 +186,21 @@ static void check_refusals(void) {
     take_piece(&h, wrong + 3, 1, RUN_LEN);
     check_host("wrong tag, whole", &h, answer(7, 0, 0, 0));
 
+    /* A seventh key while six are held: that answer is for good too. */
+    h = begin();
+    take_piece(&h, log_bytes, 8, 0);
+    for (uint8_t key = 10; key < 17; key++) {
+        const uint8_t down[13] = {2, 0, 10, 1, key, 0, 0, 0, 0, 0, 0, 0, 0};
+        take_piece(&h, down, 7, 0);
+        take_piece(&h, down + 7, 6, 2);
+        h.line_len = 0; /* the words are other ones here */
+    }
+    report("a seventh key", "answer", same_answer(h.last.answer, answer(11, 5, 86, 1)));
+    report("a seventh key", "reader",
+           h.last.reader.told == 1 && h.last.reader.number == TRABECULON_TOO_MANY_HELD
+               && h.last.reader.count == 0 && h.last.reader.machine.held == 0xFC00);
+    check_kept("a seventh key, after it", h);
+
     /* An empty piece changes nothing. */
     h = begin();
     feed(&h, 0, 20, 20);
@@ -230,8 +247,26 @@ static void check_no_readers(void) {
     check_2("told the number 2", reader);
 
     reader = trabeculon_reader_fresh();
-    reader.machine.last = 1;
+    reader.machine.last.ms = 1;
     check_2("neither a machine nor zeros", reader);
+
+    reader = trabeculon_reader_fresh();
+    reader.machine.held = 1;
+    check_2("a held key and no machine", reader);
+
+    reader = trabeculon_reader_fresh();
+    reader.machine = trabeculon_open(100, 50, 50, 0).machine;
+    reader.machine.held = 0x7F;
+    check_2("seven keys are held", reader);
+    reader.machine.held = UINT64_C(1) << 31;
+    check_2("bit 31 is held", reader);
+    reader.machine.held = UINT64_C(1) << 32;
+    check_2("bit 32 is held", reader);
+
+    reader = trabeculon_reader_fresh();
+    reader.told = 1;
+    reader.number = 10;
+    check_2("told the writer's number", reader);
 
     reader = trabeculon_reader_fresh();
     reader.count = 3;

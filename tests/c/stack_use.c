@@ -42,7 +42,7 @@ static uint16_t t;
 static uint8_t j, l, solo;
 static trabeculon_machine machine;
 static uint8_t kind, key;
-static uint64_t stamp;
+static trabeculon_stamp stamp;
 static uint16_t line[LINE];
 static uint8_t log_bytes[SETTINGS_LEN + 65 * LINE];
 static size_t log_len;
@@ -67,8 +67,8 @@ static void random_settings(void) {
 
 static void random_event(void) {
     kind = 1 + below(6);
-    key = kind < 3 ? below(3) : kind < 5 ? below(2) : 0;
-    stamp += below(4) ? below(1 + t / 2) : below(3);
+    key = kind < 3 ? below(7) : kind < 5 ? below(2) : 0;
+    stamp.ms += below(4) ? below(1 + t / 2) : below(3);
     if (below(50) == 0) {
         key = below(256);
     }
@@ -78,13 +78,13 @@ static void random_log(void) {
     const uint8_t settings[SETTINGS_LEN] = {1, 0, 5, t >> 8, t & 255, j, l, solo};
     memcpy(log_bytes, settings, SETTINGS_LEN);
     log_len = SETTINGS_LEN;
-    stamp = 0;
+    stamp.ms = 0;
     for (int i = 0; i < EVENTS; i++) {
         random_event();
         const uint8_t event[5] = {2, 0, 10, kind, kind < 3 ? key % 31 : key % 2};
         memcpy(log_bytes + log_len, event, sizeof event);
         for (int place = 0; place < 8; place++) {
-            log_bytes[log_len + 5 + place] = stamp >> 8 * (7 - place);
+            log_bytes[log_len + 5 + place] = stamp.ms >> 8 * (7 - place);
         }
         if (kind > 4) {
             log_bytes[log_len + 4] = 0;
@@ -164,7 +164,7 @@ int main(void) {
         random_settings();
         deepest(&open, call_open);
         machine = opened.machine;
-        stamp = 0;
+        stamp.ms = 0;
         for (int i = 0; i < 20; i++) {
             random_event();
             deepest(&step, call_step);

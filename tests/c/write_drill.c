@@ -43,8 +43,6 @@ typedef struct {
     size_t run_len;
 } setup;
 
-_Static_assert(sizeof(trabeculon_drill) == 24, "the answer has no padding");
-
 static uint8_t buffer[BUFFER_LEN];
 static uint8_t *const run = buffer + RUN_START;
 static int failures = 0;

@@ -1,0 +1,57 @@
+/*
+ * A host that hands its own time over where a stamp of the keyboard is wanted does
+ * not compile, and the same host with a stamp does. tests/header compiles this file
+ * with one of each:
+ *
+ *   GIVEN   what the host has: STAMP, a trabeculon_stamp; NUMBER, a plain number of
+ *           milliseconds; OTHER, a struct of the host's own that looks the same
+ *   WANTED  where it goes: STEP, DISTANCE, or LAST, a machine's last stamp
+ *
+ * It is C and C++.
+ */
+#include "trabeculon.h"
+
+#define STAMP 1
+#define NUMBER 2
+#define OTHER 3
+
+#define STEP 1
+#define DISTANCE 2
+#define LAST 3
+
+typedef struct {
+    uint64_t ms;
+} host_time;
+
+#if GIVEN == STAMP
+typedef trabeculon_stamp given;
+#elif GIVEN == NUMBER
+typedef uint64_t given;
+#elif GIVEN == OTHER
+typedef host_time given;
+#else
+#error "GIVEN is STAMP, NUMBER or OTHER"
+#endif
+
+#if WANTED == STEP
+trabeculon_stepped tick(trabeculon_machine machine, given now);
+
+trabeculon_stepped tick(trabeculon_machine machine, given now) {
+    return trabeculon_step(machine, TRABECULON_TICK, 0, now);
+}
+#elif WANTED == DISTANCE
+trabeculon_asked ask(trabeculon_machine machine, given now);
+
+trabeculon_asked ask(trabeculon_machine machine, given now) {
+    return trabeculon_distance(machine, now);
+}
+#elif WANTED == LAST
+trabeculon_machine moved(trabeculon_machine machine, given now);
+
+trabeculon_machine moved(trabeculon_machine machine, given now) {
+    machine.last = now;
+    return machine;
+}
+#else
+#error "WANTED is STEP, DISTANCE or LAST"
+#endif
