@@ -27,7 +27,7 @@ struct Example {
 const USUAL: (u16, u8, u8, u8) = (100, 50, 50, 0);
 const SLOW: (u16, u8, u8, u8) = (1_000, 50, 50, 0);
 
-const EXAMPLES: [Example; 7] = [
+const EXAMPLES: [Example; 9] = [
     Example {
         name: "saigai",
         settings: USUAL,
@@ -200,6 +200,60 @@ T=100, J=L=50, solo 0.
 play prints さいがい, and nothing waits.
 ",
         expected: "さいがい\nwaiting 0\n",
+    },
+    Example {
+        name: "held",
+        settings: USUAL,
+        keystrokes: "21@0 21@500 21@533 R@550 21@566 21up@580 Rup@590 21@700 21up@750",
+        damage: None,
+        line: None,
+        text: "\
+A letter is held down until it repeats in the hardware (request 7/12): a repeat is
+no press and does what a tick does. 125 bytes, T=100, J=L=50, solo 0.
+
+   at  stamp  typed                what happens
+    0         settings
+    8      0  key 21 (か) down     か waits until 100
+   21    500  key 21 down again    a repeat; late: か is committed
+   34    533  key 21 down again    a repeat: nothing
+   47    550  right thumb down     the thumb waits
+   60    566  key 21 down again    a repeat: nothing, so there is no chord
+   73    580  key 21 up            nothing; the key is no longer held
+   86    590  right thumb up       no mark, since solo is 0
+   99    700  key 21 (か) down     a new press: か waits until 800
+  112    750  key 21 up            か is committed
+
+play prints かか, and nothing waits. Before 7/12 each repeat was a press, and it
+printed かかかがか.
+",
+        expected: "かか\nwaiting 0\n",
+    },
+    Example {
+        name: "seven",
+        settings: USUAL,
+        keystrokes: "10@0 11@20 12@40 13@60 14@80 15@100 15@130 11up@150 16@160 17@170 tick@270",
+        damage: None,
+        line: None,
+        text: "\
+Seven fingers (request 7/12): a press of a new key while six are held is refused.
+151 bytes, T=100, J=L=50, solo 0.
+
+   at  stamp  typed                what happens
+    0         settings
+    8      0  key 10 (う) down     う waits
+   21     20  key 11 (し) down     う is committed, し waits
+   34     40  key 12 (て) down     し is committed, て waits
+   47     60  key 13 (け) down     て is committed, け waits
+   60     80  key 14 (せ) down     け is committed, せ waits
+   73    100  key 15 (は) down     せ is committed, は waits; six are held
+   86    130  key 15 down again    a repeat, though six are held: nothing
+   99    150  key 11 up            five are held
+  112    160  key 16 (と) down     は is committed, と waits; six are held
+  125    170  key 17 (き) down     a seventh: refused 11; the rest is not read
+
+play prints うしてけせは, which was committed before that, and where it is. と waits.
+",
+        expected: "うしてけせは\nrefused 11 at 125\n",
     },
 ];
 
