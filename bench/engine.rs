@@ -1,4 +1,4 @@
-//! The machine of document 01, with the requests up to 5/12, as a Rust programmer would
+//! The machine of document 01, with the requests up to 7/12, as a Rust programmer would
 //! write it for speed. All Rust readers of the bench stand on it:
 //!
 //! - One jump by the state, and one by the kind of the event.
@@ -9,11 +9,13 @@
 //!   is while events are taken, and made 0 only where numbers are handed back.
 //! - An event gives what rests next, which is kept once its words fit.
 
-use trabeculon_model::live::Flat;
+use trabeculon_model::live::{at, Flat};
 
 pub const EVENT_LENGTH: usize = 13;
 pub const LARGEST_STAMP: u64 = 1_000_000_000_000;
+pub const MOST_HELD: u32 = 6;
 const SHORT_OVERLAP: u64 = 400;
+const TICK: u8 = 6;
 
 /// Allowed keys are below this, by kind.
 const KEYS_OF_KIND: [u8; 7] = [0, 31, 31, 2, 2, 1, 1];
@@ -105,6 +107,8 @@ pub struct Engine {
     l: u64,
     solo: bool,
     last: u64,
+    /// One bit a key.
+    held: u32,
     resting: Resting,
 }
 
@@ -137,9 +141,10 @@ impl Engine {
     /// The machine that these numbers name. They are well formed.
     #[inline(always)]
     pub fn of(machine: &Flat) -> Engine {
-        let Flat { last, m, o, r, t, j, l, solo, state, key, thumb } = *machine;
-        let resting = Resting { state, key, thumb, m, o, r };
-        Engine { t: t.into(), j: j.into(), l: l.into(), solo: solo == 1, last, resting }
+        let Flat { last, m, o, r, held, t, j, l, solo, state, key, thumb } = *machine;
+        let resting = Resting { state, key, thumb, m: m.ms, o: o.ms, r: r.ms };
+        let (t, j, l) = (t.into(), j.into(), l.into());
+        Engine { t, j, l, solo: solo == 1, last: last.ms, held: held as u32, resting }
     }
 
     /// The numbers after some events, given those before.
@@ -149,7 +154,8 @@ impl Engine {
         let (key, m) = if matches!(state, 1 | 3) { (0, 0) } else { (key, m) };
         let (thumb, o) = if state < 3 { (0, 0) } else { (thumb, o) };
         let r = if state < 6 { 0 } else { r };
-        Flat { last: self.last, m, o, r, state, key, thumb, ..*before }
+        let (last, held) = (at(self.last), self.held.into());
+        Flat { last, m: at(m), o: at(o), r: at(r), held, state, key, thumb, ..*before }
     }
 
     /// Takes an event and writes its words. How many bytes; nothing is done where it is
@@ -166,11 +172,30 @@ impl Engine {
         if stamp < self.last {
             return Err(5);
         }
+        let (kind, held) = self.hold(kind, key)?;
         let (words, resting) = self.take(kind, key, stamp);
         let bytes = words.write(out).ok_or(8u32)?;
         self.resting = resting;
         self.last = stamp;
+        self.held = held;
         Ok(bytes)
+    }
+
+    /// What an event acts as, and which keys are held after it: a repeat, and an up of a
+    /// key that is not held, are ticks.
+    #[inline(always)]
+    fn hold(&self, kind: u8, key: u8) -> Result<(u8, u32), u32> {
+        if kind > 2 {
+            return Ok((kind, self.held));
+        }
+        let (down, bit) = (kind == 1, 1 << key);
+        if down == (self.held & bit != 0) {
+            return Ok((TICK, self.held));
+        }
+        if down && self.held.count_ones() == MOST_HELD {
+            return Err(11);
+        }
+        Ok((kind, self.held ^ bit))
     }
 
     #[inline(always)]
