@@ -2,19 +2,20 @@
 use Prim.Native.Nat.{ℕ, _+_, _-_, _≤_, _<_}
 use native.Mathlib.Omega.{arith}
 use native.Mathlib.Nat.{zero-add}
-use borrow.Author.Tests.{le-leb, lt-leb, leb-true, eqb-false}
-use mathlib.Core.Bool.{Bool, true, false, _&&_, not, and-false, and-eq-true-iff}
+use borrow.Author.Tests.{le-leb, lt-leb, leb-true}
+use mathlib.Core.Bool.{Bool, true, false, and-false, true≢false}
 use mathlib.Core.Logic.{_≢_}
 use mathlib.Core.Path.{_≡_, refl, sym, ap, _∙_}
 use mathlib.Core.List.{List, [], _∷_, _++_}
 use mathlib.Core.Option.{Option, none, some, Option·some-injective, Option·none-ne-some}
-use lib.Dec.{leb, eqb}
+use lib.Dec.{leb}
 use lib.ListN.{length, take, length-append, length-drop}
 use lib.Seq.{take-append-seam}
 use Rattle.rules.specs.Sequences.{waiting}
 use Rattle.rules.specs.declared.Resting.{Resting}
 use Rattle.rules.specs.declared.Resting.the-variants.{S1, S2, S3, S4, S5, S6}
 use Rattle.rules.specs.declared.Machine.{Machine}
+use Rattle.rules.proofs.Choices.{either}
 use Rattle.runs.specs.Filled.{filled, Stored}
 use Rattle.runs.proofs.Filling.{stored-both}
 use Rattle.text.specs.Text.{text, Encodes}
@@ -142,33 +143,30 @@ few-waiting : (m : Option Machine) → waiting-of m ≤ 1
 few-waiting none = omega arith
 few-waiting (some m) = few-wait (m .resting)
 
-small-told : (f : Option ℕ) (count : ℕ) → told-formed f count ≡ true → number-of f ≤ 9
+small-told : (f : Option ℕ) (count : ℕ) → told-formed f count ≡ true → number-of f ≤ 11
 small-told none count e = omega arith
 small-told (some n) count e =
-    let both = and-eq-true-iff (leb n 9 && not (eqb n 2)) (eqb count 0) .0 e in
-    leb-true n 9 (and-eq-true-iff (leb n 9) (not (eqb n 2)) .0 (both .0) .0)
+    either (leb n 11) (λ small. leb-true n 11 small) (λ large. absurd (true≢false (sym (rw large at e))))
 
--- and never 2, which is said only of a reader that is not well formed
+-- and never 2, which is said only of a reader that is not well formed, nor 10, which is a drill's
 never-2 : (f : Option ℕ) (count : ℕ) → told-formed f count ≡ true → number-of f ≢ 2
 never-2 none count e = λ z. omega arith
-never-2 (some n) count e =
-    let both = and-eq-true-iff (leb n 9 && not (eqb n 2)) (eqb count 0) .0 e in
-    let differs : not (eqb n 2) ≡ true = and-eq-true-iff (leb n 9) (not (eqb n 2)) .0 (both .0) .1 in
-    eqb-false n 2 (by (eqb n 2) differs)
-  where
-    by : (t : Bool) → not t ≡ true → t ≡ false
-    by true h = sym h
-    by false h = refl
+never-2 (some n) count e = λ z. true≢false (sym (rw z at e))
+
+never-10 : (f : Option ℕ) (count : ℕ) → told-formed f count ≡ true → number-of f ≢ 10
+never-10 none count e = λ z. omega arith
+never-10 (some n) count e = λ z. true≢false (sym (rw z at e))
 
 -- the numbers that the program can print
-pub reached-number : (r : pieces.Reader) → Reached r → (last r .number ≢ 2) × (last r .number ≢ 8)
+pub reached-number : (r : pieces.Reader) → Reached r → (last r .number ≢ 2) × (last r .number ≢ 8) × (last r .number ≢ 10)
 reached-number r d =
     let s = reached-sound r d in
-    let ended = formed-facts (end r) (piece-facts .end-keeps r (s .well)) in
-    rw (last-formed r (s .well)) (never-2 (end r .told) (length (end r .pending)) (ended .told), end-eight r (s .eight))
+    let told = formed-facts (end r) (piece-facts .end-keeps r (s .well)) .told in
+    let count = length (end r .pending) in
+    rw (last-formed r (s .well)) (never-2 (end r .told) count told, end-eight r (s .eight), never-10 (end r .told) count told)
 
 abbrev pub Small : LogAnswer → Type 0
-Small a = (a .number < 10) × (a .waiting < 10) × (a .offset < 10_000_000_000_000)
+Small a = (a .number < 100) × (a .waiting < 10) × (a .offset < 10_000_000_000_000)
 
 small-answer : (r : pieces.Reader) → Formed r → Small (answer r)
 small-answer r f = (

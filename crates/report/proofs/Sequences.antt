@@ -14,6 +14,7 @@ use Rattle.rules.specs.Choice.{if_then_else_}
 use Rattle.rules.proofs.Choices.{by-test}
 use Rattle.keylog.specs.Walk.{walk}
 use Rattle.keylog.specs.Reader.{read-record, number-of}
+use Rattle.keylog.specs.Facts.{GivenWithRoom}
 use Rattle.keylog.specs.Pieces.{longest-log, Reader, start, so-far, formed, Given, tell, place, walked, unless-told, piece}
 use Rattle.keylog.proofs.PieceFacts.{piece-facts}
 use Rattle.keylog.proofs.ReaderFormed.{formed-facts}
@@ -52,8 +53,8 @@ told-apart : (n : ℕ) (r : Reader) (bytes : List ℕ) → length bytes ≤ buff
 unfolding piece
 told-apart n r bytes short s = by-told (r .told) refl
   where
-    small : (f : Option ℕ) → number-of f ≤ 7 → Apart (n + length bytes) f
-    small f h = ((λ e. omega (arith, ap number-of e)), (λ _ e. omega (arith, ap number-of e)))
+    small : (f : Option ℕ) → GivenWithRoom (number-of f) → Apart (n + length bytes) f
+    small f h = ((λ e. h .not-8 (ap number-of e)), (λ _ e. h .not-9 (ap number-of e)))
 
     by-nine : longest-log < so-far r + length bytes → so-far r ≡ n → Apart (n + length bytes) (some 9)
     by-nine past counted = ((λ z. omega (arith, ap number-of z)), (λ within _. omega arith))

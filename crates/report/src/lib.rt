@@ -72,7 +72,7 @@ fn put_number(out: &mut [u8], at: usize, n: u64) -> usize
 
 // `waiting N` or `refused N at OFFSET`, at a place where it fits.
 fn put_status(out: &mut [u8], at: usize, number: u64, waiting: u64, offset: u64) -> usize
-    requires { ⌜ (number < 10) × (waiting < 10) × (offset < 10_000_000_000_000) ⌝ }
+    requires { ⌜ (number < 100) × (waiting < 10) × (offset < 10_000_000_000_000) ⌝ }
     requires { ⌜ at + 38 ≤ length (now out) ⌝ }
     ensures { λ r. ⌜ Stored at (status number waiting offset) (now (out .entry)) r (now (out .exit)) ⌝ }
     ensures { λ r. ⌜ r ≤ at + 38 ⌝ }
@@ -89,7 +89,7 @@ fn put_status(out: &mut [u8], at: usize, number: u64, waiting: u64, offset: u64)
 
 // What follows the line, at the front of a run where it fits.
 fn put_closing(out: &mut [u8], answer: LogAnswer) -> usize
-    requires { ⌜ (answer .number < 10) × (answer .waiting < 10) × (answer .offset < 10_000_000_000_000) ⌝ }
+    requires { ⌜ (answer .number < 100) × (answer .waiting < 10) × (answer .offset < 10_000_000_000_000) ⌝ }
     requires { ⌜ 40 ≤ length (now out) ⌝ }
     ensures { λ r. ⌜ Stored 0 (closing answer) (now (out .entry)) r (now (out .exit)) ⌝ }
     ensures { λ r. ⌜ r ≤ 40 ⌝ }
@@ -151,7 +151,7 @@ pub fn show_piece(reader: Reader, piece: &[u8], out: &mut [u8]) -> Shown
 // The answer at the end.
 fn answer_at_end(reader: Reader) -> LogAnswer
     ensures { λ r. ⌜ r ≡ last (reader-of reader) ⌝ }
-    ensures { λ r. ⌜ (r .number < 10) × (r .waiting < 10) × (r .offset < 10_000_000_000_000) ⌝ }
+    ensures { λ r. ⌜ (r .number < 100) × (r .waiting < 10) × (r .offset < 10_000_000_000_000) ⌝ }
 {
     let fed = pieces::end_log(reader);
     fed.answer
