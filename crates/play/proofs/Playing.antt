@@ -67,7 +67,7 @@ end-shown r run a after n d room s w = by a (rw t at (s .answered)) w
     by (Ending.the-variants.Text bytes number offset) e v =
         let same : number ≡ last r .number = cc in
         let told = reached-number r d in
-        (v, rw same (told .0), rw same (told .1))
+        (v, rw same (told .0), rw same (told .1), rw same (told .2))
 
 -- the bytes of a read
 pub taken : (room n : ℕ) (p : Piece) → p ≡ Bytes n → Taken room p → (1 ≤ n) × (n ≤ room)

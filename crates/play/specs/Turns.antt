@@ -18,7 +18,7 @@ Has-text n (Shown.the-variants.Text next bytes) = bytes ≤ n
 -- there is a text of the end, it lies within a length, and the number is none that the program never prints
 abbrev pub Has-end : ℕ → Ending.Ending → Type 0
 Has-end n Ending.the-variants.Full = ⊥
-Has-end n (Ending.the-variants.Text bytes number offset) = (bytes ≤ n) × (number ≢ 2) × (number ≢ 8)
+Has-end n (Ending.the-variants.Text bytes number offset) = (bytes ≤ n) × (number ≢ 2) × (number ≢ 8) × (number ≢ 10)
 
 -- A turn whose piece led to a reader: it goes on with that reader while nothing is told, and stops once something is.
 abbrev pub Turns : Reader → Turn → Type 0

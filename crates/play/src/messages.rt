@@ -28,14 +28,16 @@ fn meaning(number: u32) {
             STDERR_FILENO,
             b"tag unknown, length wrong, or settings missing first or met again\n",
         ),
+        11 => io::write_all(STDERR_FILENO, b"press of a new key while 6 are held\n"),
         _ => io::write_all(STDERR_FILENO, b"refused\n"),
     }
     ;
 }
 
-// What a log's number means, on standard error. Nothing for 0. The reader is well formed and has room, so 2 and 8 don't come.
+// What a log's number means, on standard error. Nothing for 0. The reader is well formed and has room, so 2 and 8 don't come, and 10 is
+// a drill's.
 pub fn explain(number: u32, offset: usize)
-    requires { ⌜ (number ≢ 2) × (number ≢ 8) ⌝ }
+    requires { ⌜ (number ≢ 2) × (number ≢ 8) × (number ≢ 10) ⌝ }
 {
     if number == 0 {
         return;

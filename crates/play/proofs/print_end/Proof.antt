@@ -13,7 +13,7 @@ explain-requires : tie.Need-explain-requires
 explain-requires c κs =
     let e = c .before .before .before .before in
     let has = rw (e .ending .given .1) at (e .before .before .before .pre) in
-    (has .1, has .2)
+    (has .1, has .2, has .3)
 
 pub print-end-spec : {M : Type 1} → statement M
 print-end-spec =
