@@ -8,11 +8,12 @@ use host::PieceRead;
 use keyboard::DistanceAnswer;
 use keyboard::OpenAnswer;
 use keyboard::StepAnswer;
+use rules::Stamp;
 ghost use Prim.Native.Nat.{_/_};
 ghost use mathlib.Core.Path.{_≡_};
 ghost use lib.ListN.{length};
 ghost use Rattle.rules.specs.Numbers.{settings-of};
-ghost use Rattle.rules.specs.States.{at, opening};
+ghost use Rattle.rules.specs.States.{opening};
 ghost use Rattle.keylog.specs.Runs.{high-first, Reads};
 ghost use Rattle.writer.specs.Writes.{Writes};
 ghost use Rattle.host.specs.Face.{told};
@@ -74,15 +75,15 @@ pub extern "C" fn trabeculon_open(t: u16, j: u8, l: u8, solo: u8) -> OpenAnswer
 }
 
 #[no_mangle]
-pub extern "C" fn trabeculon_step(machine: Flat, kind: u8, key: u8, stamp: u64) -> StepAnswer
+pub extern "C" fn trabeculon_step(machine: Flat, kind: u8, key: u8, stamp: Stamp) -> StepAnswer
     ensures { λ r. ⌜ r ≡ step-numbers machine (event-of kind key stamp) ⌝ }
 {
     keyboard::trabeculon_step(machine, kind, key, stamp)
 }
 
 #[no_mangle]
-pub extern "C" fn trabeculon_distance(machine: Flat, stamp: u64) -> DistanceAnswer
-    ensures { λ r. ⌜ r ≡ distance-numbers machine (at stamp) ⌝ }
+pub extern "C" fn trabeculon_distance(machine: Flat, stamp: Stamp) -> DistanceAnswer
+    ensures { λ r. ⌜ r ≡ distance-numbers machine stamp ⌝ }
 {
     keyboard::trabeculon_distance(machine, stamp)
 }
