@@ -17,4 +17,6 @@ pub mod Demand3
 pub mod HeldRules
 pub mod Signed
 pub mod DistanceFacts
+pub mod MovedClock
+pub mod LastAccepted
 pub mod Tried

@@ -1,26 +1,32 @@
--- Each sentence of demand 3 tried on concrete events, refused ones among them, so that none holds for want of cases: the premises
--- are met by computation, and what follows says something.
-use Prim.Native.Nat.{ℕ, _<_}
+-- Each sentence of demand 3, and the moved clock of 8/12, tried on concrete events, refused ones among them, so that none holds for
+-- want of cases: the premises are met by computation, and what follows says something.
+use Prim.Native.Nat.{ℕ, _+_, _<_}
 use Prim.Native.Char.{code}
-use mathlib.Core.Bool.{true}
-use mathlib.Core.List.{List, [], _∷_, _++_}
-use mathlib.Core.Path.{_≡_, refl, sym}
+use mathlib.Core.Bool.{Bool, true, _&&_, and-eq-true-iff}
+use mathlib.Core.List.{List, [], _∷_, _++_, map}
+use mathlib.Core.Path.{_≡_, refl, sym, _∙_}
 use lib.Count.{onesIn}
-use lib.Dec.{lit≤}
+use lib.Dec.{ltb, leb, lit≤}
 use lib.ListN.{length}
-use Rattle.rules.specs.Numbers.{in-range, up, A, B, FJ, FL, D, X, W}
+use borrow.Author.Tests.{leb-true, le-ltb}
+use Rattle.rules.specs.Choice.{if_then_else_}
+use Rattle.rules.specs.Numbers.{largest-stamp, in-range, up, A, B, FJ, FL, D, X, W}
 use Rattle.rules.specs.Layout.{table, code-point}
 use Rattle.rules.specs.LayoutFacts.{key}
 use Rattle.rules.specs.Held.{is-held, hold, release, how-many, held-formed}
-use Rattle.rules.specs.States.{at, well-formed}
+use Rattle.rules.specs.States.{at, fresh, well-formed}
 use Rattle.rules.specs.OneEvent.{mark, same-thumb, same-key, second-character-takes-thumb, second-thumb-takes-character, short-overlap, settle, one-event}
 use Rattle.rules.specs.ZeroDelay.{character, sent, sign}
 use Rattle.rules.specs.GivenBack.{input, is-new, judge, step}
 use Rattle.rules.specs.Sequences.{press, characters, state, presses, items, line, screen}
 use Rattle.rules.specs.Demand3.{with-event, SameText, TakesNothing}
-use Rattle.rules.specs.Examples.{usual, with-solo, が}
+use Rattle.rules.specs.Distance.{asking}
+use Rattle.rules.specs.MovedClock.{moved-events, AllStay, Told, all-told, ClockMoved}
+use Rattle.rules.specs.Examples.{usual, with-solo, が, to-wait}
+use Rattle.rules.specs.declared.Resting.the-variants.{S2}
 use Rattle.rules.specs.declared.Event.{Event}
 use Rattle.rules.proofs.Demand3.{demand-3}
+use Rattle.rules.proofs.MovedClock.{clock-moved}
 
 -- kind, key, stamp
 e : ℕ → ℕ → ℕ → Event
@@ -102,3 +108,73 @@ unfolding e busy calm marked step judge is-new input well-formed is-held hold re
 tried-5 =
     demand-3 with-solo solo-in-range (with-event marked (e 6 0 100)) .no-backspace-takes-committed marked [] (e 6 0 100) refl []
     (sign 2 ∷ sign (code "か") ∷ []) refl
+
+-- 8/12. Seven keys, of which the last is refused 11.
+crowd : List Event
+crowd = e 1 0 0 ∷ e 1 1 0 ∷ e 1 2 0 ∷ e 1 3 0 ∷ e 1 4 0 ∷ e 1 30 0 ∷ e 1 21 0 ∷ []
+
+numbers-of : List Told → List ℕ
+numbers-of ts = map (λ (t : Told). t .number) ts
+
+-- that all stamps stay in range, as a test
+abbrev in-reach : ℕ → List Event → Bool
+in-reach k [] = true
+in-reach k (a ∷ es) = (if ltb largest-stamp (a .stamp .0) then true else leb (a .stamp .0 + k) largest-stamp) && in-reach k es
+
+all-stay : (k : ℕ) (es : List Event) → in-reach k es ≡ true → AllStay k es
+all-stay k [] h = tt
+all-stay k (a ∷ es) h =
+    let here = if ltb largest-stamp (a .stamp .0) then true else leb (a .stamp .0 + k) largest-stamp in
+    let p = and-eq-true-iff here (in-reach k es) .0 h in
+    (λ low. leb-true _ _ (rw (le-ltb largest-stamp (a .stamp .0) low) at (p .0)), all-stay k es (p .1))
+
+-- A chord whose events are all accepted, moved so far that its last stamp is the largest; events of which some are refused, a second
+-- later; and both kinds of a stamp 0: while nothing is accepted the last stamp is 0, before the move and after it, and one that was
+-- accepted moves.
+record Moved : Type 0 where
+  calm-numbers : numbers-of (all-told usual calm) ≡ 0 ∷ 0 ∷ 0 ∷ 0 ∷ 0 ∷ 0 ∷ []
+  calm-items : items usual (moved-events 999_999_999_900 calm) ≡ が ∷ []
+  calm-rests : state usual (moved-events 999_999_999_900 calm) .resting ≡ S2 (key 24) (at 1_000_000_000_000)
+  busy-numbers : numbers-of (all-told usual (moved-events 1_000 busy)) ≡ 0 ∷ 3 ∷ 0 ∷ 0 ∷ 5 ∷ 0 ∷ 0 ∷ 4 ∷ 0 ∷ []
+  busy-line : line usual (moved-events 1_000 busy) ≡ code "が" ∷ []
+  busy-rests : state usual (moved-events 1_000 busy) .resting ≡ S2 (key 24) (at 1_100)
+  busy-last : state usual (moved-events 1_000 busy) .last ≡ at 1_100
+  busy-held : state usual (moved-events 1_000 busy) .held ≡ 16_777_216
+  busy-asked : asking (state usual busy) (at 150) ≡ to-wait 50
+  crowd-numbers : numbers-of (all-told usual (moved-events 1_000 crowd)) ≡ 0 ∷ 0 ∷ 0 ∷ 0 ∷ 0 ∷ 0 ∷ 11 ∷ []
+  fresh-stays : state usual (moved-events 1_000 (e 1 31 5 ∷ [])) ≡ fresh usual
+  first-moves : state usual (moved-events 1_000 (e 6 0 0 ∷ [])) .last ≡ at 1_000
+
+computed-moved : Moved
+unfolding e busy calm crowd numbers-of asking step judge is-new input well-formed is-held hold release how-many held-formed onesIn in-range one-event settle mark same-thumb same-key second-character-takes-thumb second-thumb-takes-character short-overlap sent character code-point table up A B FJ FL D X W
+computed-moved =
+    record {
+      calm-numbers = refl;
+      calm-items = refl;
+      calm-rests = refl;
+      busy-numbers = refl;
+      busy-line = refl;
+      busy-rests = refl;
+      busy-last = refl;
+      busy-held = refl;
+      busy-asked = refl;
+      crowd-numbers = refl;
+      fresh-stays = refl;
+      first-moves = refl;
+    }
+
+calm-moved : ClockMoved 999_999_999_900 usual calm
+unfolding e calm
+calm-moved = clock-moved 999_999_999_900 usual calm (all-stay 999_999_999_900 calm refl)
+
+busy-moved : ClockMoved 1_000 usual busy
+unfolding e busy
+busy-moved = clock-moved 1_000 usual busy (all-stay 1_000 busy refl)
+
+crowd-moved : ClockMoved 1_000 usual crowd
+unfolding e crowd
+crowd-moved = clock-moved 1_000 usual crowd (all-stay 1_000 crowd refl)
+
+-- asked a second later
+busy-asked-moved : asking (state usual (moved-events 1_000 busy)) (at 1_150) ≡ to-wait 50
+busy-asked-moved = busy-moved .same-distance (at 150) (λ _. lit≤ tt) ∙ computed-moved .busy-asked

@@ -16,4 +16,5 @@ pub mod StepFacts
 pub mod SequenceFacts
 pub mod Distance
 pub mod DistanceFacts
+pub mod MovedClock
 pub mod Examples
