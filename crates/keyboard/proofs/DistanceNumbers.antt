@@ -72,7 +72,7 @@ unfolding flat
 flat-last x t = refl
 
 module _ (f : Flat) (x : Machine) (names : named f ≡ some x) where
-  asks : (now : Stamp) → distance-numbers f now ≡ asked-numbers (asking x now)
+  pub asks : (now : Stamp) → distance-numbers f now ≡ asked-numbers (asking x now)
   unfolding distance-numbers
   asks now = rw names
 

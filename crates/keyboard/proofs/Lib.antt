@@ -2,3 +2,4 @@ mod Numbered
 pub mod HandedOn
 pub mod HostScreen
 pub mod DistanceNumbers
+pub mod MovedKeyboard
