@@ -12,7 +12,7 @@ trabeculon-reader-piece-spec =
     (tie.spec
     (λ c κs. search needs)
     (λ c. search needs)
-    (λ c κs. search needs)
+    (λ c κs. search needs)  -- what `refused` asks
     (λ c. search needs)
     (λ c κs. search needs)
     (λ c κs. search needs)
