@@ -82,13 +82,15 @@ extern "C" {
 /*
  * A moment of the keyboard's own clock, in milliseconds. It has a type of its
  * own, so that a host's time, by a clock that has nothing to do with the
- * keyboard's, does not compile where a stamp is wanted: no plain number does,
- * and no other struct. A host makes a stamp where a number comes in from the
- * keyboard, and nowhere else:
+ * keyboard's, does not compile where it is handed over or assigned as a stamp,
+ * as a plain number or in a struct of the host's own. In braces a number is
+ * taken: in a list that makes a whole machine, and in C++ as an argument. A
+ * host makes a stamp where a number comes in from the keyboard, and nowhere
+ * else:
  *
  *     trabeculon_stamp stamp = {number};
  *
- * Tested: what does not compile (tests/c/clock.c).
+ * Tested: what does not compile, and what does (tests/c/clock.c).
  */
 typedef struct {
     uint64_t ms;
@@ -155,7 +157,9 @@ typedef struct {
  * over Reader.antt); when each number is given and what an accepted record
  * leaves (RecordRefusals, keylog/specs/RecordRefusals.antt); that the words,
  * where there is room for them all, are the line of the log's accepted events,
- * and that 2 never comes (LogSequence, keylog/specs/LogSequence.antt).
+ * and that 2 never comes (LogSequence, keylog/specs/LogSequence.antt); that one
+ * number added to every event's stamp, all staying at most the largest, changes
+ * nothing (Log-moved, keylog/specs/MovedLog.antt).
  */
 trabeculon_answer trabeculon_read_log(const uint8_t *log, size_t log_len,
                                       uint8_t *out, size_t out_len);
@@ -257,11 +261,19 @@ trabeculon_drill trabeculon_write_drill(uint16_t t, uint8_t j, uint8_t l,
  * between two calls, so any number of keyboards can be driven side by side,
  * each with its own machine.
  *
+ * Where that clock begins does not matter. With one number added to every
+ * stamp, all staying at most the largest, each call gives the same number,
+ * items, signs and milliseconds, and a machine that differs in its stamps
+ * alone. The last stamp of a fresh machine, 0, is no moment of the clock: it is
+ * 0 whatever is added.
+ *
  * Proved, of calls from opening on: each is answered as document 01 answers
  * that event (KeyboardFacts, keyboard/specs/KeyboardFacts.antt); the screen and
  * the line (screen-is and line-is in HostFacts,
  * keyboard/specs/HostScreen.antt); that ticks do no harm, and that a backspace
- * never takes a committed sign (Demand3, rules/specs/Demand3.antt).
+ * never takes a committed sign (Demand3, rules/specs/Demand3.antt); that only
+ * differences of stamps count (Keyboard-moved,
+ * keyboard/specs/MovedKeyboard.antt).
  */
 
 /*

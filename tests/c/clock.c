@@ -5,7 +5,9 @@
  *
  *   GIVEN   what the host has: STAMP, a trabeculon_stamp; NUMBER, a plain number of
  *           milliseconds; OTHER, a struct of the host's own that looks the same
- *   WANTED  where it goes: STEP, DISTANCE, or LAST, a machine's last stamp
+ *   WANTED  where it goes: STEP, DISTANCE, or LAST, a machine's last stamp; or
+ *           BRACES, a list that makes a whole machine, and in C++ an argument in
+ *           braces, where a number is taken too
  *
  * It is C and C++.
  */
@@ -18,6 +20,7 @@
 #define STEP 1
 #define DISTANCE 2
 #define LAST 3
+#define BRACES 4
 
 typedef struct {
     uint64_t ms;
@@ -52,6 +55,16 @@ trabeculon_machine moved(trabeculon_machine machine, given now) {
     machine.last = now;
     return machine;
 }
+#elif WANTED == BRACES
+trabeculon_machine made(given now);
+
+trabeculon_machine made(given now) {
+    trabeculon_machine machine = {now, now, now, now, 0, 100, 50, 50, 0, 1, 0, 0};
+#ifdef __cplusplus
+    machine = trabeculon_step(machine, TRABECULON_TICK, 0, {now}).machine;
+#endif
+    return machine;
+}
 #else
-#error "WANTED is STEP, DISTANCE or LAST"
+#error "WANTED is STEP, DISTANCE, LAST or BRACES"
 #endif
