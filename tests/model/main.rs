@@ -1,12 +1,13 @@
 //! `model check` tries the model against every worked example of the papers, and
-//! demand 3, the round trip of drills and the distance on random sequences, lines
-//! and states. `model play` and `model drill` print what the program of that name
-//! prints for its standard input, by the model. `model long` writes a typed log of so
-//! many MiB and keeps little of it in memory.
+//! demand 3, the moved clock, the round trip of drills and the distance on random
+//! sequences, lines and states. `model play` and `model drill` print what the program
+//! of that name prints for its standard input, by the model. `model long` writes a
+//! typed log of so many MiB and keeps little of it in memory.
 
 mod check_drill;
 mod check_held;
 mod check_live;
+mod check_moved;
 mod check_pieces;
 mod worked;
 
@@ -105,6 +106,7 @@ fn check_all() -> Result<(), String> {
     check_drill::check_all()?;
     check_live::check_all()?;
     check_held::check_all()?;
+    check_moved::check_all()?;
     check_pieces::check_all()?;
     check_demand3()?;
     check_rules_reached()
