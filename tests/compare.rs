@@ -3,11 +3,12 @@
 //!
 //!   compare [COUNT [SEED]] [--wrong-rule [NAME]]
 //!
-//! The reader: the fixed set of logs damaged at every place, then COUNT random
-//! ones. The writer (compare_writer.rs): its fixed set of drills, then a quarter of
-//! COUNT random ones. Exit 0: all equal. Exit 1: a mismatch, printed. Exit 2: wrong
-//! arguments.
+//! The reader: the fixed set of logs damaged at every place, then COUNT random ones;
+//! and then all of them with their stamps moved (compare_moved.rs). The writer
+//! (compare_writer.rs): its fixed set of drills, then a quarter of COUNT random ones.
+//! Exit 0: all equal. Exit 1: a mismatch, printed. Exit 2: wrong arguments.
 
+mod compare_moved;
 mod compare_writer;
 
 use std::process::ExitCode;
@@ -82,17 +83,19 @@ fn compare_all(arguments: &Arguments) -> Result<(), String> {
     // No log shows a wrong rule of the writer.
     if arguments.wrong.writer.is_none() {
         compare_reader(arguments)?;
+        compare_moved::compare_all(arguments)?;
     }
     compare_writer::compare_all(arguments)
 }
 
 fn compare_reader(arguments: &Arguments) -> Result<(), String> {
-    let mut random = Random::new(arguments.seed);
+    // Of the logs and of the runs: the logs are made once more to be moved.
+    let (mut random, mut runs) = (Random::new(arguments.seed), Random::new(!arguments.seed));
     let slip = arguments.wrong.reader;
 
     let mut fixed: Tally = Tally::default();
     every_place(|case| {
-        compare(&mut random, slip, &case).map(|answer| fixed.add(answer.number.into()))
+        compare(&mut runs, slip, &case).map(|answer| fixed.add(answer.number.into()))
     })?;
     fixed.print("logs damaged at every place");
 
@@ -100,7 +103,7 @@ fn compare_reader(arguments: &Arguments) -> Result<(), String> {
     let (mut overlaps, mut holding) = (Overlaps::default(), Holding::default());
     for index in 0..arguments.count {
         let case = random_case(&mut random);
-        let answer = compare(&mut random, slip, &case)
+        let answer = compare(&mut runs, slip, &case)
             .map_err(|what| format!("log {index} of seed {}: {what}", arguments.seed))?;
         tally.add(answer.number.into());
         overlaps.add_log(&case.log[..answer.offset as usize]);
