@@ -5,14 +5,15 @@
 //!   compare_pieces [COUNT [SEED]] [--wrong-rule [NAME]]
 //!
 //! Single calls: a fixed set that tries every place of a reader's numbers, then COUNT
-//! random readers, well formed or not. Logs: a fixed set of whole ones and of ones
-//! damaged at every place, then a quarter of COUNT random ones. Each is cut at random,
-//! into pieces of any length, with runs that are too short now and then. The whole ones
-//! and the short random ones are cut at every place too; of the damaged ones some are,
-//! and each at one place, the next one at the next. After every piece and at the end
-//! the library's reader of whole logs must say the same, until an 8; and calls after a
-//! refusal and after the end are tried. Exit 0: all equal. Exit 1: a mismatch, printed.
-//! Exit 2: wrong arguments.
+//! random readers, well formed or not. Logs: a fixed set of whole ones, a quarter of
+//! COUNT random ones, both once more with their stamps moved (8/12), and a fixed set
+//! damaged at every place. Each is cut at random, into pieces of any length, with runs
+//! that are too short now and then. The whole ones and the short random ones are cut at
+//! every place too; of the damaged ones some are, and each at one place, the next one at
+//! the next. After every piece and at the end the library's reader of whole logs must
+//! say the same, until an 8; calls after a refusal and after the end are tried; and a
+//! moved log has the answers and the words of the log itself in the same pieces. Exit 0:
+//! all equal. Exit 1: a mismatch, printed. Exit 2: wrong arguments.
 
 use std::mem::size_of;
 use std::process::ExitCode;
@@ -21,6 +22,7 @@ use trabeculon_model::arguments::{self, named};
 use trabeculon_model::generate::{base_logs, every_place, random_case, typed_log, Case};
 use trabeculon_model::log::Answer;
 use trabeculon_model::model::SLIPS;
+use trabeculon_model::moved::{log_stamps, moved_log, one_move, MOVES};
 use trabeculon_model::pieces::{
     end_numbers, fresh_numbers, piece_numbers, FlatReader, PieceRead, Wrong, PIECE_SLIPS,
 };
@@ -127,12 +129,13 @@ fn compare_all(arguments: &Arguments) -> Result<(), String> {
     if library != model {
         return Err(format!("fresh readers differ\nlibrary {library:?}\nmodel   {model:?}"));
     }
-    // Single calls first: they show a wrong rule soonest.
+    // Single calls first: they show a wrong rule soonest. The damaged logs take longest.
     compare_fixed_calls(arguments)?;
     compare_random_calls(arguments)?;
     compare_whole_logs(arguments)?;
-    compare_damaged_logs(arguments)?;
-    compare_random_logs(arguments)
+    compare_random_logs(arguments)?;
+    compare_moved_logs(arguments)?;
+    compare_damaged_logs(arguments)
 }
 
 // ---- One call ----
@@ -286,6 +289,48 @@ fn compare_whole_logs(arguments: &Arguments) -> Result<(), String> {
     Ok(())
 }
 
+fn compare_random_logs(arguments: &Arguments) -> Result<(), String> {
+    let mut compared = Compared::new(!arguments.seed, arguments.wrong);
+    random_logs(arguments, |log, runs| {
+        if log.len() <= SHORT {
+            compared.every_cut(log)?;
+        }
+        compared.random_cut(log, runs)
+    })?;
+    compared.print(&format!("of random logs of seed {}", arguments.seed));
+    compared.complete(&LOG_NUMBERS, arguments.count)
+}
+
+/// Hands over the random logs, always the same ones; stops at the first error.
+fn random_logs(
+    arguments: &Arguments,
+    mut visit: impl FnMut(&[u8], Runs) -> Result<(), String>,
+) -> Result<(), String> {
+    let mut random = Random::new(arguments.seed);
+    (0..arguments.count / CALLS_FOR_A_LOG).try_for_each(|index| {
+        let log = match index % LOGS_FOR_A_LONG_ONE {
+            0 => typed_log(&mut random, (100, 50, 50, 1), LONG),
+            _ => random_case(&mut random).log,
+        };
+        let runs = if index % 2 == 0 { Runs::Enough } else { Runs::TooShort };
+        visit(&log, runs).map_err(|what| format!("log {index} of seed {}: {what}", arguments.seed))
+    })
+}
+
+/// The whole and the random logs once more, moved. They come after those that are not,
+/// so that a wrong rule which is seen here was not seen there.
+fn compare_moved_logs(arguments: &Arguments) -> Result<(), String> {
+    let mut compared = Compared::new(arguments.seed, arguments.wrong);
+    let mut ways = Tally::default();
+    for log in base_logs() {
+        (0..CUTS).try_for_each(|_| compared.moved(&log, Runs::TooShort, &mut ways))?;
+    }
+    random_logs(arguments, |log, runs| compared.moved(log, runs, &mut ways))?;
+    compared.print("of logs, moved and not");
+    println!("  how far{}", ways.times());
+    ways.complete(&MOVES, arguments.count)
+}
+
 fn compare_damaged_logs(arguments: &Arguments) -> Result<(), String> {
     let mut compared = Compared::new(arguments.seed, arguments.wrong);
     let mut index = 0;
@@ -305,31 +350,11 @@ fn compare_damaged_logs(arguments: &Arguments) -> Result<(), String> {
     Ok(())
 }
 
-fn compare_random_logs(arguments: &Arguments) -> Result<(), String> {
-    let mut random = Random::new(arguments.seed);
-    let mut compared = Compared::new(!arguments.seed, arguments.wrong);
-    for index in 0..arguments.count / CALLS_FOR_A_LOG {
-        let log = match index % LOGS_FOR_A_LONG_ONE {
-            0 => typed_log(&mut random, (100, 50, 50, 1), LONG),
-            _ => random_case(&mut random).log,
-        };
-        let mut compare = || {
-            if log.len() <= SHORT {
-                compared.every_cut(&log)?;
-            }
-            let runs = if index % 2 == 0 { Runs::Enough } else { Runs::TooShort };
-            compared.random_cut(&log, runs)
-        };
-        compare().map_err(|what| format!("log {index} of seed {}: {what}", arguments.seed))?;
-    }
-    compared.print(&format!("of random logs of seed {}", arguments.seed));
-    compared.complete(&LOG_NUMBERS, arguments.count)
-}
-
 impl Compared {
     /// A log in two pieces, cut at every place.
     fn every_cut(&mut self, log: &[u8]) -> Result<(), String> {
-        (0..=log.len()).try_for_each(|cut| self.log(log, &[cut, log.len() - cut], Runs::Enough))
+        (0..=log.len())
+            .try_for_each(|cut| self.log(log, &[cut, log.len() - cut], Runs::Enough).map(drop))
     }
 
     /// A log in three pieces, cut at every two places.
@@ -345,14 +370,48 @@ impl Compared {
 
     fn random_cut(&mut self, log: &[u8], runs: Runs) -> Result<(), String> {
         let pieces = random_cut(&mut self.random, log.len());
-        self.log(log, &pieces, runs)
+        self.log(log, &pieces, runs).map(drop)
     }
 
-    /// A log in pieces of these lengths, its end, and a few calls after that.
-    fn log(&mut self, log: &[u8], pieces: &[usize], runs: Runs) -> Result<(), String> {
+    /// A log cut at random, and with its stamps moved in the same pieces, with the same
+    /// runs: the same answers to all pieces and the end, and the same words.
+    fn moved(
+        &mut self,
+        log: &[u8],
+        runs: Runs,
+        ways: &mut Tally<&'static str>,
+    ) -> Result<(), String> {
+        let Some((way, k)) = one_move(&mut self.random, &log_stamps(log)) else { return Ok(()) };
+        ways.add(way);
+        let pieces = random_cut(&mut self.random, log.len());
+        // The same random numbers give the same runs.
+        let again = self.random.clone();
+        let before = self.log(log, &pieces, runs)?;
+        self.random = again;
+        let after = self
+            .log(&moved_log(log, k), &pieces, runs)
+            .map_err(|what| format!("moved by {k}: {what}"))?;
+        match after == before {
+            true => Ok(()),
+            false => Err(format!(
+                "moved by {k}: not as before\nbefore  {before:x?}\nafter   {after:x?}\n\
+                 log     {}\npieces  {pieces:?}",
+                cut_hex(log)
+            )),
+        }
+    }
+
+    /// A log in pieces of these lengths, its end, and a few calls after that. All answers
+    /// of the library, the end's last, and the words.
+    fn log(
+        &mut self,
+        log: &[u8],
+        pieces: &[usize],
+        runs: Runs,
+    ) -> Result<(Vec<Answer>, Vec<u8>), String> {
         let in_log = |what| format!("{what}\nlog     {}\npieces  {pieces:?}", cut_hex(log));
         let mut reader = library_fresh();
-        let mut line = vec![];
+        let (mut answers, mut line) = (vec![], vec![]);
         let (mut came, mut after) = (0, 0);
         for length in pieces {
             if after > PIECES_AFTER {
@@ -363,6 +422,7 @@ impl Compared {
             let (read, words) = self.piece(&Call { reader, piece, room }).map_err(in_log)?;
             came += length;
             after += usize::from(reader.told == 1);
+            answers.push(read.answer);
             line.extend(words);
             if came <= OFTEN_READ {
                 before_the_end(&log[..came], &read.answer, &line).map_err(in_log)?;
@@ -370,8 +430,10 @@ impl Compared {
             reader = read.reader;
         }
         let read = self.end(&reader).map_err(in_log)?;
+        answers.push(read.answer);
         at_the_end(log, &read.answer, &line).map_err(in_log)?;
-        self.after_the_end(&read).map_err(in_log)
+        self.after_the_end(&read).map_err(in_log)?;
+        Ok((answers, line))
     }
 
     /// The length of a piece's run, by how many words the model writes.

@@ -1,6 +1,7 @@
 //! A small generator of pseudo-random numbers (splitmix64), so that a seed
 //! gives the same logs on every machine.
 
+#[derive(Clone)]
 pub struct Random(u64);
 
 impl Random {
