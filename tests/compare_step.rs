@@ -6,8 +6,11 @@
 //!
 //! Opening: every T, and settings on and beside every boundary. Steps and distances:
 //! a fixed set that tries every place of a state's numbers, then COUNT random
-//! states, each with a few events and stamps. Walks: for every twenty states one.
-//! Exit 0: all equal. Exit 1: a mismatch, printed. Exit 2: wrong arguments.
+//! states, each with a few events and stamps. Walks: for every twenty states one. And
+//! walks and states with their stamps moved (compare_step_moved.rs). Exit 0: all equal.
+//! Exit 1: a mismatch, printed. Exit 2: wrong arguments.
+
+mod compare_step_moved;
 
 use std::fmt::{Debug, Formatter};
 use std::mem::size_of;
@@ -100,7 +103,8 @@ fn compare_all(arguments: &Arguments) -> Result<(), String> {
     compare_openings(arguments)?;
     compare_fixed(arguments)?;
     compare_random(arguments)?;
-    compare_walks(arguments)
+    compare_walks(arguments)?;
+    compare_step_moved::compare_all(arguments)
 }
 
 // ---- One answer ----
@@ -257,18 +261,43 @@ fn compare_state(
 // ---- Walks ----
 
 fn compare_walks(arguments: &Arguments) -> Result<(), String> {
-    // Another run of numbers than that of the states.
-    let mut random = Random::new(!arguments.seed);
     let mut compared = Compared::default();
-    let walks = arguments.count / STATES_FOR_A_WALK;
-    for index in 0..walks {
-        compare_walk(&mut random, arguments.wrong, &mut compared)
-            .map_err(|what| format!("walk {index} of seed {}: {what}", arguments.seed))?;
-    }
+    let walks = every_walk(arguments, &mut compared, |_| Ok(()))?;
     compared.print(&format!("in {walks} walks of seed {}", arguments.seed));
     compared.overlaps.complete(walks)?;
     compared.holding.complete(&HOLDING, arguments.count)?;
     compared.complete(&WALK_STEP_NUMBERS, &WALK_DISTANCE_NUMBERS, arguments.count)
+}
+
+/// Goes all walks, always the same ones, and hands each over; stops at the first error.
+/// How many there were.
+fn every_walk(
+    arguments: &Arguments,
+    compared: &mut Compared,
+    mut visit: impl FnMut(Walk) -> Result<(), String>,
+) -> Result<u64, String> {
+    // Another run of numbers than that of the states.
+    let mut random = Random::new(!arguments.seed);
+    let walks = arguments.count / STATES_FOR_A_WALK;
+    for index in 0..walks {
+        compare_walk(&mut random, arguments.wrong, compared)
+            .and_then(&mut visit)
+            .map_err(|what| format!("walk {index} of seed {}: {what}", arguments.seed))?;
+    }
+    Ok(walks)
+}
+
+/// The calls of a walk from opening on, and what they were answered.
+struct Walk {
+    settings: RawSettings,
+    calls: Vec<Call>,
+}
+
+/// An event, and then distances from stamps.
+struct Call {
+    event: Event,
+    stepped: Stepped,
+    asked: Vec<(u64, Asked)>,
 }
 
 /// What a host has in hand: the machine, the committed line and the screen.
@@ -278,13 +307,17 @@ struct Host {
     screen: Vec<u16>,
 }
 
-fn compare_walk(random: &mut Random, wrong: Wrong, compared: &mut Compared) -> Result<(), String> {
+fn compare_walk(
+    random: &mut Random,
+    wrong: Wrong,
+    compared: &mut Compared,
+) -> Result<Walk, String> {
     let raw = right_settings(random);
     let opened = compare_open(wrong, raw)?;
     let mut host = Host { machine: opened.machine, line: vec![], screen: vec![] };
     let hands = Hands::random(random);
     let count = random.pick(&[10, 30, 30, 60, 200]);
-    let mut events = vec![];
+    let (mut events, mut calls) = (vec![], vec![]);
     for _ in 0..random.place(count) {
         let machine = host.machine.machine(Wrong::default());
         let machine = machine.map_err(|_| format!("no machine was handed back: {host:?}"))?;
@@ -293,11 +326,12 @@ fn compare_walk(random: &mut Random, wrong: Wrong, compared: &mut Compared) -> R
             None => next_event(random, &machine, &hands, true),
         };
         events.push((event.kind, event.key, event.stamp));
-        walk_on(random, wrong, &mut host, event, compared).map_err(|what| {
+        let call = walk_on(random, wrong, &mut host, event, compared).map_err(|what| {
             format!("{what}\nT J L solo {raw:?}, kinds, keys and stamps {events:?}")
         })?;
+        calls.push(call);
     }
-    Ok(())
+    Ok(Walk { settings: raw, calls })
 }
 
 /// Now and then in S5 its thumb goes up soon, which is what leads to S6.
@@ -314,7 +348,7 @@ fn walk_on(
     host: &mut Host,
     event: Event,
     compared: &mut Compared,
-) -> Result<(), String> {
+) -> Result<Call, String> {
     let stepped = compared.step(wrong, &host.machine, event)?;
     host.take(&stepped)?;
     let last = host.machine.last.ms;
@@ -322,10 +356,11 @@ fn walk_on(
     let due = last.saturating_add_signed(now.milliseconds);
     let far = last.saturating_add(random.below(150_000));
     let out = random.pick(&[last.wrapping_sub(1), LARGEST_STAMP, LARGEST_STAMP + 1, u64::MAX]);
+    let mut asked = vec![(last, now)];
     for stamp in [due.saturating_sub(1), due, due.saturating_add(1), far, out] {
-        compared.distance(wrong, &host.machine, stamp)?;
+        asked.push((stamp, compared.distance(wrong, &host.machine, stamp)?));
     }
-    Ok(())
+    Ok(Call { event, stepped, asked })
 }
 
 impl Host {
