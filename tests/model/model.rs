@@ -65,9 +65,14 @@ pub enum Slip {
     Bit31Allowed,
     /// Seven held keys are well formed. No sequence from a fresh state shows it.
     SevenFormed,
+    /// A lone thumb's wait is counted from the clock's zero point.
+    ThumbByTheClock,
+    /// A lone character that was pressed before the stamp 2^32 is due there at the latest.
+    /// No log shows it that is not moved (8/12).
+    DueAt2To32,
 }
 
-pub const SLIPS: [(&str, Slip); 23] = [
+pub const SLIPS: [(&str, Slip); 25] = [
     ("late-after-event", Slip::LateAfterEvent),
     ("rounds-down", Slip::RoundsDown),
     ("thumb-restarts", Slip::ThumbRestarts),
@@ -91,6 +96,8 @@ pub const SLIPS: [(&str, Slip); 23] = [
     ("waiting-counts-as-held", Slip::WaitingCountsAsHeld),
     ("bit-31-allowed", Slip::Bit31Allowed),
     ("seven-formed", Slip::SevenFormed),
+    ("thumb-by-the-clock", Slip::ThumbByTheClock),
+    ("due-at-2-to-32", Slip::DueAt2To32),
 ];
 
 /// Settings in range: `new` is the only way to get one.
@@ -320,7 +327,11 @@ impl Machine {
         let s = &self.settings;
         match self.resting {
             S1 => None,
+            S2 { m, .. } if s.slips(Slip::DueAt2To32) && m >> 32 == 0 => {
+                Some((m + s.a()).min(1 << 32))
+            }
             S2 { m, .. } => Some(m + s.a()),
+            S3 { .. } if s.slips(Slip::ThumbByTheClock) => s.solo.then(|| s.b()),
             S3 { o, .. } => s.solo.then(|| o + s.b()),
             S4 { m, o, .. } => Some(o + s.fj(o - m)),
             S5 { o, m, .. } if s.slips(Slip::NoCap) => Some(m + s.fl(m - o)),
