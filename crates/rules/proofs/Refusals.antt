@@ -1,6 +1,6 @@
 -- Every refusal stands in its place: by the outcome of each check, in their order.
 use Prim.Native.Nat.{ℕ, _≤_}
-use mathlib.Core.Bool.{Bool, true, false, true≢false, and-eq-true-iff}
+use mathlib.Core.Bool.{Bool, true, false, true≢false, not, _&&_, and-eq-true-iff}
 use mathlib.Core.Logic.{_↔_}
 use mathlib.Core.Option.{Option, none, some}
 use mathlib.Core.Path.{_≡_, refl, sym, _∙_, ap}
@@ -8,7 +8,7 @@ use native.Mathlib.Omega.{arith}
 use borrow.Author.Tests.{ltb-true, ltb-false, eqb-true, eq-eqb}
 use lib.Dec.{ltb, eqb}
 use Rattle.rules.specs.Numbers.{largest-stamp, most-held}
-use Rattle.rules.specs.Held.{how-many}
+use Rattle.rules.specs.Held.{is-held, how-many}
 use Rattle.rules.specs.States.{well-formed}
 use Rattle.rules.specs.GivenBack.{input, is-new, too-many, judge, step, refusal}
 use Rattle.rules.specs.Refusals.{NotWellFormed, NotAllowed, AboveLargest, BeforeLast, TooMany, LeftAsGiven, Refusals}
@@ -45,8 +45,23 @@ not-before m e y h =
     omega arith
 
 not-too-many : (m : Machine) (e : Event) → too-many m e ≡ false → ¬ TooMany m e
+unfolding is-new
 not-too-many m e z h =
-    true≢false (sym (and-eq-true-iff (is-new m e) (eqb (how-many (m .held)) most-held) .1 (h .0, eq-eqb _ _ (h .1))) ∙ z)
+    let k : eqb (e .kind) 1 ≡ true = eq-eqb _ _ (h .0) in
+    let n : eqb (how-many (m .held)) most-held ≡ true = eq-eqb _ _ (h .2) in
+    let t : too-many m e ≡ true = rw (k, h .1, n) in
+    true≢false (sym t ∙ z)
+
+is-free : (b : Bool) → not b ≡ true → b ≡ false
+is-free true h = absurd (true≢false (sym h))
+is-free false h = refl
+
+is-too-many : (m : Machine) (e : Event) → too-many m e ≡ true → TooMany m e
+unfolding is-new
+is-too-many m e z =
+    let p = and-eq-true-iff (eqb (e .kind) 1 && not (is-held (m .held) (e .key))) (eqb (how-many (m .held)) most-held) .0 z in
+    let q = and-eq-true-iff (eqb (e .kind) 1) (not (is-held (m .held) (e .key))) .0 (p .0) in
+    (eqb-true _ _ (q .0), is-free (is-held (m .held) (e .key)) (q .1), eqb-true _ _ (p .1))
 
 module _ (m : Machine) (e : Event) where
   by-2 : well-formed m ≡ false → Refusals m e
@@ -128,8 +143,7 @@ module _ (m : Machine) (e : Event) where
           let a : ¬ NotAllowed e = is-allowed e j i in
           let l : ¬ AboveLargest e = not-above e x in
           let b : ¬ BeforeLast m e = not-before m e y in
-          let p = and-eq-true-iff (is-new m e) (eqb (how-many (m .held)) most-held) .0 z in
-          let h : TooMany m e = (p .0, eqb-true _ _ (p .1)) in
+          let h : TooMany m e = is-too-many m e z in
           record {
             gives-2 = neither (λ g. omega arith) f;
             gives-3 = neither (λ g. omega arith) (λ r. a (r .1));

@@ -1,5 +1,6 @@
 -- Document 01, "Keystrokes to try": the examples P1 to P11 as one table (P8 as 1/12 of document 02 has it), the numbers that
--- 01 works out as another, distances of 3/12 and the slow hands of 4/12 as two more. The proofs are in proofs/Examples.antt.
+-- 01 works out as another; distances of 3/12, the slow hands of 4/12 and the held keys of 7/12 as three more. The proofs are in
+-- proofs/Examples.antt.
 use Prim.Native.Nat.{ℕ, _+_}
 use Prim.Native.Char.{code}
 use Prim.Native.String.{String}
@@ -18,7 +19,7 @@ use Rattle.rules.specs.declared.Thumb.{Thumb}
 use Rattle.rules.specs.declared.Thumb.the-variants.{Left, Right}
 use Rattle.rules.specs.declared.Settings.{Settings}
 use Rattle.rules.specs.declared.Resting.{Resting}
-use Rattle.rules.specs.declared.Resting.the-variants.{S1, S2, S3, S6}
+use Rattle.rules.specs.declared.Resting.the-variants.{S1, S2, S3, S4, S6}
 use Rattle.rules.specs.declared.Face.the-variants.{Plain, With}
 use Rattle.rules.specs.declared.Item.{Item}
 use Rattle.rules.specs.declared.Item.the-variants.{Character, Mark}
@@ -148,7 +149,8 @@ slow-hands =
     (down 21 0 ∷ thumb Right 500 ∷ up 21 899 ∷ text (か ∷ []) ∷ rests (S3 Right (at 500)) ∷ []) ∷
     example "an overlap of 400" slow (down 21 0 ∷ thumb Right 500 ∷ up 21 900 ∷ text (が ∷ []) ∷ rests S1 ∷ []) ∷ []
 
--- 7/12: a repeat and an up of a key not held act as a tick, a function key does not clear the set, a seventh key is refused.
+-- 7/12: a repeat and an up of a key not held act as a tick, a function key does not clear the set, a seventh key is refused, but
+-- no thumb and no function key.
 abbrev pub held-down : List Example
 held-down =
     example "a repeat" usual
@@ -158,7 +160,8 @@ held-down =
     example "a function key" usual (down 21 0 ∷ arrives 5 0 10 ∷ text (か ∷ []) ∷ down 21 20 ∷ rests S1 ∷ []) ∷
     example "a seventh key" usual
     (down 0 0 ∷ down 1 0 ∷ down 2 0 ∷ down 3 0 ∷ down 4 0 ∷ down 30 0 ∷ answered 0 ∷ down 21 0 ∷ answered 11 ∷
-    rests (S2 (key 30) (at 0)) ∷ down 31 0 ∷ answered 3 ∷ down 21 (largest-stamp + 1) ∷ answered 4 ∷ down 4 5 ∷ answered 0 ∷
+    rests (S2 (key 30) (at 0)) ∷ thumb Right 0 ∷ answered 0 ∷ rests (S4 (key 30) (at 0) Right (at 0)) ∷ thumb-up Right 0 ∷ answered 0 ∷
+    arrives 5 0 0 ∷ answered 0 ∷ rests S1 ∷ down 31 0 ∷ answered 3 ∷ down 21 (largest-stamp + 1) ∷ answered 4 ∷ down 4 5 ∷ answered 0 ∷
     down 21 4 ∷ answered 5 ∷ up 4 5 ∷ down 21 5 ∷ answered 0 ∷ rests (S2 (key 21) (at 5)) ∷ []) ∷ []
 
 -- The answers to one that asks. A machine whose settings are out of range is not well formed.

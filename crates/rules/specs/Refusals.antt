@@ -7,9 +7,9 @@ use mathlib.Core.Logic.{_↔_, _≢_}
 use mathlib.Core.Option.{none}
 use mathlib.Core.Path.{_≡_}
 use Rattle.rules.specs.Numbers.{largest-stamp, most-held}
-use Rattle.rules.specs.Held.{how-many}
+use Rattle.rules.specs.Held.{is-held, how-many}
 use Rattle.rules.specs.States.{well-formed}
-use Rattle.rules.specs.GivenBack.{Answer, input, is-new, step}
+use Rattle.rules.specs.GivenBack.{Answer, input, step}
 use Rattle.rules.specs.declared.Machine.{Machine}
 use Rattle.rules.specs.declared.Event.{Event}
 
@@ -31,7 +31,7 @@ BeforeLast m e = e .stamp .0 < m .last .0
 
 -- 11: a press of a new key while 6 are held (7/12)
 abbrev pub TooMany : Machine → Event → Type 0
-TooMany m e = (is-new m e ≡ true) × (how-many (m .held) ≡ most-held)
+TooMany m e = (e .kind ≡ 1) × (is-held (m .held) (e .key) ≡ false) × (how-many (m .held) ≡ most-held)
 
 -- state handed back as given, nothing committed, nothing sent
 pub record LeftAsGiven (m : Machine) (r : Answer) : Type 0 where
