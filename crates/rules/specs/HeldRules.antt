@@ -2,14 +2,15 @@
 use Prim.Native.Nat.{ℕ, _≤_, _<_}
 use mathlib.Core.Bool.{Bool, true, false, _&&_}
 use mathlib.Core.List.{List, [], _∷_}
+use mathlib.Core.Logic.{_≢_}
 use mathlib.Core.Path.{_≡_}
 use lib.Dec.{eqb}
 use lib.ListN.{length}
 use Rattle.rules.specs.Choice.{if_then_else_}
 use Rattle.rules.specs.Numbers.{keys, most-held, in-range}
-use Rattle.rules.specs.Held.{is-held, held-keys}
+use Rattle.rules.specs.Held.{is-held, held-keys, held-formed}
 use Rattle.rules.specs.OneEvent.{same-key}
-use Rattle.rules.specs.GivenBack.{step}
+use Rattle.rules.specs.GivenBack.{Answer, step}
 use Rattle.rules.specs.Sequences.{Press, waiting, state}
 use Rattle.rules.specs.Demand3.{tick}
 use Rattle.rules.specs.DistanceFacts.{only-time-passes}
@@ -32,6 +33,19 @@ pub record ActsAsTick (m : Machine) (k : Key) (t : Stamp) : Type 0 where
   pub stray-up : k .0 < keys → is-held (m .held) k ≡ false → step m (up k t) ≡ step m (tick t)
   pub repeat-changes : is-held (m .held) k ≡ true → step m (down k t) .number ≡ 0 → step m (down k t) ≡ only-time-passes m t
   pub stray-up-changes : k .0 < keys → is-held (m .held) k ≡ false → step m (up k t) .number ≡ 0 → step m (up k t) ≡ only-time-passes m t
+
+-- the same with another held set
+abbrev pub holding : ℕ → Machine → Machine
+holding h m = record { settings = m .settings; resting = m .resting; last = m .last; held = h }
+
+abbrev pub answer-holding : ℕ → Answer → Answer
+answer-holding h r = record { number = r .number; items = r .items; sendings = r .sendings; machine = holding h (r .machine) }
+
+-- Of every machine, event and set h: an event that is neither a down nor an up of a character key asks nothing of the held set but
+-- whether it is well formed, and leaves it as it is. With h in its place it gives the same.
+abbrev pub SetNotRead : Machine → Event → ℕ → Type 0
+SetNotRead m e h =
+    e .kind ≢ 1 → e .kind ≢ 2 → held-formed h ≡ held-formed (m .held) → step (holding h m) e ≡ answer-holding h (step m e)
 
 -- Whether key k is held after an accepted event, by its kind and key: a down holds its key, an up releases it, and every other
 -- key stays as it was before.
