@@ -1,18 +1,19 @@
 -- What 7/12 says of a step and of a sequence.
 use Prim.Native.Nat.{ℕ, _<_}
 use mathlib.Core.Bool.{true, false}
+use mathlib.Core.List.{List, [], _∷_, _++_}
 use mathlib.Core.Option.{Option, none, some}
 use mathlib.Core.Path.{_≡_, refl, sym, _∙_, ap}
 use lib.Dec.{ltb, eqb}
 use borrow.Author.Tests.{lt-ltb, ne-eqb}
 use Rattle.rules.specs.Numbers.{keys, largest-stamp}
 use Rattle.rules.specs.Held.{is-held}
-use Rattle.rules.specs.States.{well-formed}
+use Rattle.rules.specs.States.{fresh, well-formed}
 use Rattle.rules.specs.GivenBack.{with-thumb, input, acts-as, held-after, Verdict, accepted, is-new, judge-input, judge, Answer, answer, step}
-use Rattle.rules.specs.Sequences.{state}
+use Rattle.rules.specs.Sequences.{after, along, accepted-in, state, accepted-events}
 use Rattle.rules.specs.Demand3.{tick}
 use Rattle.rules.specs.DistanceFacts.{only-time-passes}
-use Rattle.rules.specs.HeldRules.{down, up, ActsAsTick, holding, answer-holding, SetNotRead, held-then, HeldAfterwards, HeldInSequences}
+use Rattle.rules.specs.HeldRules.{down, up, ActsAsTick, holding, answer-holding, SetNotRead, held-then, HeldAfterwards, held-through, HeldInSequences}
 use Rattle.rules.specs.declared.Stamp.{Stamp}
 use Rattle.rules.specs.declared.Key.{Key}
 use Rattle.rules.specs.declared.Thumb.{Thumb}
@@ -22,8 +23,8 @@ use Rattle.rules.specs.declared.Event.{Event}
 use Rattle.rules.specs.declared.Input.{Input}
 use Rattle.rules.specs.declared.Input.the-variants.{ThumbDown, ThumbUp}
 use Rattle.rules.proofs.Choices.{both-ways, two-ways}
-use Rattle.rules.proofs.Held.{held-key, formed-test, formed-exactly}
-use Rattle.rules.proofs.Steps.{step-cases}
+use Rattle.rules.proofs.Held.{held-key, none-held, formed-test, formed-exactly}
+use Rattle.rules.proofs.Steps.{taken, step-cases}
 use Rattle.rules.proofs.Ticks.{not-0}
 use Rattle.rules.proofs.Demand3.{ran}
 use Rattle.rules.proofs.DistanceFacts.{tick-is-time}
@@ -97,8 +98,26 @@ held-afterwards m e =
     (λ (r : Answer). r .number ≡ 0 → (k : Key) → is-held (r .machine .held) k ≡ held-then (e .kind) (e .key) k (is-held (m .held) k))
     m e (λ n z h. not-0 n z h) (λ i a _. a .keys-held)
 
+-- event by event
+held-along : (k : Key) (m : Machine) (es : List Event)
+    → is-held (after m es .held) k ≡ held-through k (along accepted-in m es) (is-held (m .held) k)
+held-along k m [] = refl
+held-along k m (e ∷ es) =
+    step-cases
+    (λ (r : Answer).
+    is-held (after (r .machine) es .held) k
+    ≡ held-through k (accepted-in m e r ++ along accepted-in (r .machine) es) (is-held (m .held) k))
+    m e (λ n z. rw z (held-along k m es))
+    (λ i a.
+    let next = taken m e (acts-as (m .held) i) .machine in
+    held-along k next es ∙ ap (held-through k (along accepted-in next es)) (a .keys-held k))
+
 pub held-in-sequences : HeldInSequences
 held-in-sequences s r es =
     let n = ran s r es .next in
     let h = state s es .held in
-    record { at-most-6 = formed-exactly h .0 (formed-test h (n .formed)) .1; waiting-is-held = n .waits-held }
+    record {
+      at-most-6 = formed-exactly h .0 (formed-test h (n .formed)) .1;
+      waiting-is-held = n .waits-held;
+      held-as-accepted = λ k. held-along k (fresh s) es ∙ ap (held-through k (accepted-events s es)) (none-held k);
+    }

@@ -11,7 +11,7 @@ use Rattle.rules.specs.Numbers.{keys, most-held, in-range}
 use Rattle.rules.specs.Held.{is-held, held-keys, held-formed}
 use Rattle.rules.specs.OneEvent.{same-key}
 use Rattle.rules.specs.GivenBack.{Answer, step}
-use Rattle.rules.specs.Sequences.{Press, waiting, state}
+use Rattle.rules.specs.Sequences.{Press, waiting, state, accepted-events}
 use Rattle.rules.specs.Demand3.{tick}
 use Rattle.rules.specs.DistanceFacts.{only-time-passes}
 use Rattle.rules.specs.declared.Stamp.{Stamp}
@@ -60,15 +60,22 @@ HeldAfterwards m e =
     step m e .number ≡ 0
     → (k : Key) → is-held (step m e .machine .held) k ≡ held-then (e .kind) (e .key) k (is-held (m .held) k)
 
+-- the same after accepted events, one after the other
+abbrev pub held-through : Key → List Event → Bool → Bool
+held-through k [] before = before
+held-through k (e ∷ es) before = held-through k es (held-then (e .kind) (e .key) k before)
+
 -- the keys of these presses are held
 abbrev pub AllHeld : ℕ → List Press → Type 0
 AllHeld h [] = Unit {0}
 AllHeld h (p ∷ ps) = (is-held h (p .key) ≡ true) × AllHeld h ps
 
--- Of every sequence of events from a fresh state: at most 6 keys are held, and a waiting key is held.
+-- Of every sequence of events from a fresh state: at most 6 keys are held, a waiting key is held, and a key is held exactly when the
+-- accepted events say so: the last down or up of it among them is a down.
 pub record HeldInSequence (s : Settings) (es : List Event) : Type 0 where
   pub at-most-6 : length (held-keys (state s es .held)) ≤ most-held
   pub waiting-is-held : AllHeld (state s es .held) (waiting (state s es .resting))
+  pub held-as-accepted : (k : Key) → is-held (state s es .held) k ≡ held-through k (accepted-events s es) false
 
 abbrev pub HeldInSequences : Type 0
 HeldInSequences = (s : Settings) → in-range s ≡ true → (es : List Event) → HeldInSequence s es
