@@ -13,7 +13,7 @@ use borrow.Author.Tests.{ltb-true, ltb-false, lt-ltb, le-ltb, leb-true, le-leb, 
 use Rattle.rules.specs.Choice.{if_then_else_}
 use Rattle.rules.specs.Numbers.{keys, most-held}
 use Rattle.rules.specs.Held.{bit, is-held, held-below, held-keys, hold, release, how-many, held-formed}
-use Rattle.rules.specs.HeldFacts.{HeldFacts, CountsKeys, FormedExactly}
+use Rattle.rules.specs.HeldFacts.{HeldFacts, CountsKeys, SameKeys, FormedExactly}
 use Rattle.rules.specs.OneEvent.{same-key}
 use Rattle.rules.specs.declared.Key.{Key}
 use Rattle.rules.proofs.Choices.{both-ways, by-test, either}
@@ -200,6 +200,25 @@ counts-below h (suc n) le =
 pub counts-keys : (h : ℕ) → CountsKeys h
 unfolding how-many held-keys
 counts-keys h b = all-ones 32 h (omega arith) ∙ sym (all-ones keys h b) ∙ sym (counts-below h keys (omega arith))
+
+-- Below 2 ^ n a number is its n lowest bits.
+
+same-bits : (n h g : ℕ) → h < 2 ^ n → g < 2 ^ n → ((k : ℕ) → k < n → bit h k ≡ bit g k) → h ≡ g
+same-bits zero h g b c f = omega arith
+same-bits (suc n) h g b c f =
+    let low : h % 2 ≡ g % 2 = sym (bit-zero h) ∙ f 0 (omega arith) ∙ bit-zero g in
+    let half =
+    same-bits n (h / 2) (g / 2) (omega (arith, pow-succ' 2 n)) (omega (arith, pow-succ' 2 n))
+    (λ k lt. sym (bit-suc h k) ∙ f (suc k) (omega arith) ∙ bit-suc g k) in
+    omega arith
+
+pub same-keys : (h g : ℕ) → SameKeys h g
+same-keys h g b c alike =
+    same-bits keys h g b c
+    (λ n lt.
+    let k : Key = record { 0 = n } in
+    either (is-held h k) (λ t. held-bit h k t ∙ sym (held-bit g k (sym (alike k) ∙ t)))
+    (λ f. free-bit h k lt f ∙ sym (free-bit g k lt (sym (alike k) ∙ f))))
 
 -- Well-formedness: bits 31 and up, and at most 6.
 

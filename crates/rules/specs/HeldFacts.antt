@@ -31,3 +31,7 @@ CountsKeys h = h < 2 ^ keys → how-many h ≡ length (held-keys h)
 -- So a set may be in a well-formed machine exactly when its bits are keys' and at most 6 keys are held.
 abbrev pub FormedExactly : ℕ → Type 0
 FormedExactly h = held-formed h ≡ true ↔ ((h < 2 ^ keys) × (length (held-keys h) ≤ most-held))
+
+-- Of every two sets with no bit above those of the keys: with the same keys held they are the same number.
+abbrev pub SameKeys : ℕ → ℕ → Type 0
+SameKeys h g = h < 2 ^ keys → g < 2 ^ keys → ((k : Key) → is-held h k ≡ is-held g k) → h ≡ g
