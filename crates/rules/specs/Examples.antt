@@ -1,7 +1,7 @@
 -- Document 01, "Keystrokes to try": the examples P1 to P11 as one table (P8 as 1/12 of document 02 has it), the numbers that
 -- 01 works out as another; distances of 3/12, the slow hands of 4/12 and the held keys of 7/12 as three more. The proofs are in
 -- proofs/Examples.antt.
-use Prim.Native.Nat.{ℕ, _+_}
+use Prim.Native.Nat.{ℕ, _+_, _^_}
 use Prim.Native.Char.{code}
 use Prim.Native.String.{String}
 use mathlib.Core.List.{List, [], _∷_, _++_, map}
@@ -12,7 +12,7 @@ use Rattle.rules.specs.Numbers.{largest-stamp, settings-of, A, B, D, W, 
 use Rattle.rules.specs.LayoutFacts.{key}
 use Rattle.rules.specs.States.{at}
 use Rattle.rules.specs.ZeroDelay.{Sending, backspace, sign}
-use Rattle.rules.specs.GivenBack.{step}
+use Rattle.rules.specs.GivenBack.{Answer, step}
 use Rattle.rules.specs.Sequences.{state, items}
 use Rattle.rules.specs.Distance.{Asking, not-answered, asking}
 use Rattle.rules.specs.declared.Thumb.{Thumb}
@@ -20,6 +20,7 @@ use Rattle.rules.specs.declared.Thumb.the-variants.{Left, Right}
 use Rattle.rules.specs.declared.Settings.{Settings}
 use Rattle.rules.specs.declared.Resting.{Resting}
 use Rattle.rules.specs.declared.Resting.the-variants.{S1, S2, S3, S4, S6}
+use Rattle.rules.specs.declared.Machine.{Machine}
 use Rattle.rules.specs.declared.Face.the-variants.{Plain, With}
 use Rattle.rules.specs.declared.Item.{Item}
 use Rattle.rules.specs.declared.Item.the-variants.{Character, Mark}
@@ -59,8 +60,11 @@ pub data Line : Type 0 where
   asked : ℕ → Asking → Line
 
 -- an event's kind, key and stamp
+abbrev pub an-event : ℕ → ℕ → ℕ → Event
+an-event kind k n = record { kind = kind; key = key k; stamp = at n }
+
 abbrev pub arrives : ℕ → ℕ → ℕ → Line
-arrives kind k n = event (record { kind = kind; key = key k; stamp = at n })
+arrives kind k n = event (an-event kind k n)
 
 abbrev pub thumb-key : Thumb → ℕ
 thumb-key Left = 0
@@ -223,6 +227,21 @@ SlowHandsHold = map observed slow-hands ≡ slow-hands
 
 abbrev pub HeldDownHold : Type 0
 HeldDownHold = map observed held-down ≡ held-down
+
+-- A machine made by hand, that no sequence leaves: key 21 waits since a stamp, whether it is held or not.
+abbrev pub waits-21 : ℕ → ℕ → ℕ → Machine
+waits-21 since last held = record { settings = usual; resting = S2 (key 21) (at since); last = at last; held = held }
+
+abbrev pub gives : ℕ → List Item → List Sending → Machine → Answer
+gives n is q m = record { number = n; items = is; sendings = q; machine = m }
+
+-- 7/12 at such machines: only the held set says what is a repeat, what is a new press and what an up without a down, not what waits.
+-- The set is empty; or the keys 0 to 5; or 0 to 4 and 21.
+pub record ByHandHold : Type 0 where
+  pub up-as-tick : step (waits-21 0 0 0) (an-event 2 21 50) ≡ gives 0 [] [] (waits-21 0 50 0)
+  pub down-is-new : step (waits-21 0 0 0) (an-event 1 21 50) ≡ gives 0 (か ∷ []) (sign (code "か") ∷ []) (waits-21 50 50 (2 ^ 21))
+  pub down-refused : step (waits-21 0 0 63) (an-event 1 21 50) ≡ gives 11 [] [] (waits-21 0 0 63)
+  pub repeat-accepted : step (waits-21 0 0 (31 + 2 ^ 21)) (an-event 1 21 50) ≡ gives 0 [] [] (waits-21 0 50 (31 + 2 ^ 21))
 
 abbrev pub DistancesHold : Type 0
 DistancesHold = map observed distances ≡ distances
