@@ -18,5 +18,6 @@ pub mod HeldRules
 pub mod Signed
 pub mod DistanceFacts
 pub mod MovedClock
+pub mod Pairs
 pub mod LastAccepted
 pub mod Tried

@@ -17,4 +17,6 @@ pub mod SequenceFacts
 pub mod Distance
 pub mod DistanceFacts
 pub mod MovedClock
+pub mod Pairs
+pub mod PairFacts
 pub mod Examples
