@@ -113,7 +113,8 @@ unfolding is-of names
 first-key p a b e =
     one-of (names p a b) (names p b a) e
     (λ h. rw (and-eq-true-iff (same-key (p .first) a) (same-key (p .second) b) .0 h .0))
-    (λ h. or-right (same-key (p .first) a) (same-key (p .second) a) (and-eq-true-iff (same-key (p .first) b) (same-key (p .second) a) .0 h .1))
+    (λ h.
+    or-right (same-key (p .first) a) (same-key (p .second) a) (and-eq-true-iff (same-key (p .first) b) (same-key (p .second) a) .0 h .1))
 
 first-in : (l : List Pair) (a b : Key) → is-pair l a b ≡ true → in-some-pair l a ≡ true
 unfolding pair-of in-some-pair

@@ -21,7 +21,8 @@ pub record PairFacts (l : List Pair) (a b : Key) : Type 0 where
   pub as-listed : (p : Pair) → pair-of (turned p ∷ l) a b ≡ pair-of (p ∷ l) a b
   -- a list with no pair twice has one character for two keys: that of their pair, wherever it stands
   pub one-character :
-      none-twice l ≡ true → (upto rest : List Pair) (p : Pair) → l ≡ upto ++ (p ∷ rest) → is-of p a b ≡ true → pair-of l a b ≡ some (p .character)
+      none-twice l ≡ true → (upto rest : List Pair) (p : Pair) → l ≡ upto ++ (p ∷ rest)
+      → is-of p a b ≡ true → pair-of l a b ≡ some (p .character)
   -- the keys of a pair are in some pair
   pub first-in : is-pair l a b ≡ true → in-some-pair l a ≡ true
   pub second-in : is-pair l a b ≡ true → in-some-pair l b ≡ true
