@@ -1,8 +1,9 @@
--- What the loops lean on: a list from a place on is its word there, then the list from the next place on.
+-- What the proofs lean on. For the loops: a list from a place on is its word there, then the list from the next place on. For the
+-- others: what each answer of the code says, test by test, in the order of its tests.
 use Prim.Native.Nat.{ℕ, suc, _+_, _-_, _≤_, _<_}
 use native.Mathlib.Numerals.{add-one}
 use native.Mathlib.Omega.{arith}
-use mathlib.Core.Bool.{Bool, true, false, not, _&&_, _||_}
+use mathlib.Core.Bool.{Bool, true, false, not, _&&_}
 use mathlib.Core.List.{List, [], _∷_}
 use mathlib.Core.Option.{Option, none, some}
 use mathlib.Core.Path.{_≡_, refl, sym, _∙_, ap}
@@ -10,7 +11,7 @@ use borrow.Author.Tests.{ltb-true, ltb-false, le-leb, lt-leb, not-true, not-fals
 use lib.Dec.{ltb, leb}
 use lib.ListN.{length, getD, take, drop, length-drop}
 use lib.Seq.{drop-cons, drop-length, take-all}
-use Rattle.rules.specs.Numbers.{keys, within}
+use Rattle.rules.specs.Numbers.{within}
 use Rattle.rules.specs.Pairs.{pairs-most, T-s-least, T-s-most, N-least, N-most, is-of, pair-of, is-some, is-pair, in-some-pair, none-twice, is-pair-character, pair-good, each-good, lent-good}
 use Rattle.rules.specs.OneEvent.{same-key}
 use Rattle.rules.specs.States.{is-key}

@@ -3,12 +3,11 @@ use Prim.Native.Nat.{ℕ}
 use mathlib.Core.Bool.{Bool, true, false, not, _&&_, _||_, and-eq-true-iff, false≢true}
 use mathlib.Core.List.{List, [], _∷_, _++_}
 use mathlib.Core.Option.{some}
-use mathlib.Core.Path.{_≡_, refl, sym, _∙_, ap, ap₂, subst}
+use mathlib.Core.Path.{_≡_, refl, sym, _∙_, ap}
 use borrow.Author.Tests.{eqb-true, eq-eqb, le-leb, not-true}
 use lib.Dec.{eqb}
-use Rattle.rules.specs.Choice.{if_then_else_}
 use Rattle.rules.specs.OneEvent.{same-key}
-use Rattle.rules.specs.Pairs.{Pair, Lent, T-s-least, T-s-most, N-least, N-most, names, is-of, pair-of, is-some, is-pair, in-some-pair, none-twice, is-pair-character, pair-good, each-good, lent-good}
+use Rattle.rules.specs.Pairs.{Pair, T-s-least, T-s-most, N-least, N-most, names, is-of, pair-of, is-some, is-pair, in-some-pair, none-twice, is-pair-character, pair-good, each-good, lent-good}
 use Rattle.rules.specs.PairFacts.{turned, PairFacts, NoPairsGood, TrialsHold}
 use Rattle.rules.specs.declared.Key.{Key}
 use Rattle.rules.proofs.Choices.{either}
