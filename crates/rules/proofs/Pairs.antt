@@ -2,13 +2,13 @@
 use Prim.Native.Nat.{ℕ}
 use mathlib.Core.Bool.{Bool, true, false, not, _&&_, _||_, and-eq-true-iff, false≢true}
 use mathlib.Core.List.{List, [], _∷_, _++_}
-use mathlib.Core.Option.{some}
+use mathlib.Core.Option.{some, Option·none-ne-some, Option·some-injective}
 use mathlib.Core.Path.{_≡_, refl, sym, _∙_, ap}
 use borrow.Author.Tests.{eqb-true, eq-eqb, le-leb, not-true}
-use lib.Dec.{eqb}
+use lib.Dec.{ltb, eqb}
 use Rattle.rules.specs.OneEvent.{same-key}
 use Rattle.rules.specs.Pairs.{Pair, T-s-least, T-s-most, N-least, N-most, names, is-of, pair-of, is-some, is-pair, in-some-pair, none-twice, is-pair-character, pair-good, each-good, lent-good}
-use Rattle.rules.specs.PairFacts.{turned, PairFacts, NoPairsGood, TrialsHold}
+use Rattle.rules.specs.PairFacts.{turned, Partner, PairFacts, NoPairsGood, TrialsHold}
 use Rattle.rules.specs.declared.Key.{Key}
 use Rattle.rules.proofs.Choices.{either}
 
@@ -126,6 +126,69 @@ first-in (p ∷ l) a b e =
 second-in : (l : List Pair) (a b : Key) → is-pair l a b ≡ true → in-some-pair l b ≡ true
 second-in l a b e = first-in l b a (ap is-some (either-order l b a) ∙ e)
 
+same-number : (x k : Key) → same-key x k ≡ true → x .0 ≡ k .0
+unfolding same-key
+same-number x k e = eqb-true (x .0) (k .0) e
+
+behind : (p : Pair) (l : List Pair) (x y : Key) → is-pair l x y ≡ true → is-pair (p ∷ l) x y ≡ true
+unfolding pair-of
+behind p l x y e = either (is-of p x y) (λ h. rw h) (λ h. rw h e)
+
+has-partner : (l : List Pair) (k : Key) → in-some-pair l k ≡ true → Partner l k
+unfolding in-some-pair
+has-partner [] k e = absurd (false≢true e)
+has-partner (p ∷ l) k e =
+    one-of (same-key (p .first) k || same-key (p .second) k) (in-some-pair l k) e
+    (λ h.
+    one-of (same-key (p .first) k) (same-key (p .second) k) h
+    (λ f.
+    let of = as-named p k (p .second) (same-number (p .first) k f) refl in
+    record { other = p .second; together = found [] l p k (p .second) of })
+    (λ f.
+    let of = as-turned p k (p .first) refl (same-number (p .second) k f) in
+    record { other = p .first; together = found [] l p k (p .first) of }))
+    (λ h.
+    let w = has-partner l k h in
+    record { other = w .other; together = behind p l k (w .other) (w .together) })
+
+character-is : (p : Pair) → pair-good p ≡ true → is-pair-character (p .character) ≡ true
+unfolding pair-good
+character-is p e =
+    and-eq-true-iff (not (same-key (p .first) (p .second)) && ltb (p .first .0) 31 && ltb (p .second .0) 31) _ .0 e .1
+
+good-character : (l : List Pair) (a b : Key) → each-good l ≡ true → (c : ℕ) → pair-of l a b ≡ some c → is-pair-character c ≡ true
+unfolding pair-of each-good
+good-character [] a b e c q = absurd (Option·none-ne-some c q)
+good-character (p ∷ l) a b e c q =
+    let both = and-eq-true-iff (pair-good p) (each-good l) .0 e in
+    either (is-of p a b)
+    (λ h. rw (← Option·some-injective (p .character) c (rw h at q)) (character-is p (both .0)))
+    (λ h. good-character l a b (both .1) c (rw h at q))
+
+-- a pair of a key with itself has the same key twice
+doubled : (p : Pair) (a : Key) → is-of p a a ≡ true → same-key (p .first) (p .second) ≡ true
+unfolding is-of same-key
+doubled p a e =
+    let n = one-of (names p a a) (names p a a) e (λ h. named p a a h) (λ h. named p a a h) in
+    eq-eqb (p .first .0) (p .second .0) (n .0 ∙ sym (n .1))
+
+keys-differ : (p : Pair) → pair-good p ≡ true → same-key (p .first) (p .second) ≡ false
+unfolding pair-good
+keys-differ p e = go (same-key (p .first) (p .second)) (ltb (p .first .0) 31) (ltb (p .second .0) 31) (is-pair-character (p .character)) e
+  where
+    go : (s t u v : Bool) → (not s && t && u && v) ≡ true → s ≡ false
+    go true t u v e = absurd (false≢true e)
+    go false t u v e = refl
+
+not-itself : (l : List Pair) (a : Key) → each-good l ≡ true → is-pair l a a ≡ false
+unfolding pair-of each-good
+not-itself [] a e = refl
+not-itself (p ∷ l) a e =
+    let both = and-eq-true-iff (pair-good p) (each-good l) .0 e in
+    either (is-of p a a)
+    (λ h. absurd (false≢true (sym (keys-differ p (both .0)) ∙ doubled p a h)))
+    (λ h. rw h (not-itself l a (both .1)))
+
 pub pair-facts : (l : List Pair) (a b : Key) → PairFacts l a b
 pair-facts l a b =
     record {
@@ -134,6 +197,9 @@ pair-facts l a b =
       one-character = one-character l a b;
       first-in = first-in l a b;
       second-in = second-in l a b;
+      has-partner = has-partner l a;
+      good-character = good-character l a b;
+      not-itself = not-itself l a;
     }
 
 pub no-pairs-good : (t n : ℕ) → NoPairsGood t n

@@ -7,12 +7,17 @@ use mathlib.Core.Option.{some}
 use mathlib.Core.Path.{_≡_}
 use lib.ListN.{take}
 use Rattle.rules.specs.LayoutFacts.{key}
-use Rattle.rules.specs.Pairs.{Pair, Lent, T-s-least, T-s-most, N-least, N-most, is-of, pair-of, is-pair, in-some-pair, none-twice, lent-good}
+use Rattle.rules.specs.Pairs.{Pair, Lent, T-s-least, T-s-most, N-least, N-most, is-of, pair-of, is-pair, in-some-pair, none-twice, is-pair-character, each-good, lent-good}
 use Rattle.rules.specs.declared.Key.{Key}
 
 -- a pair with its keys the other way round
 abbrev pub turned : Pair → Pair
 turned p = record { first = p .second; second = p .first; character = p .character }
+
+-- a key with which key k is a pair
+pub record Partner (l : List Pair) (k : Key) : Type 0 where
+  pub other : Key
+  pub together : is-pair l k other ≡ true
 
 -- of every list l and keys a, b
 pub record PairFacts (l : List Pair) (a b : Key) : Type 0 where
@@ -23,9 +28,13 @@ pub record PairFacts (l : List Pair) (a b : Key) : Type 0 where
   pub one-character :
       none-twice l ≡ true → (upto rest : List Pair) (p : Pair) → l ≡ upto ++ (p ∷ rest)
       → is-of p a b ≡ true → pair-of l a b ≡ some (p .character)
-  -- the keys of a pair are in some pair
+  -- the keys of a pair are in some pair, and no others are
   pub first-in : is-pair l a b ≡ true → in-some-pair l a ≡ true
   pub second-in : is-pair l a b ≡ true → in-some-pair l b ≡ true
+  pub has-partner : in-some-pair l a ≡ true → Partner l a
+  -- of a list whose pairs are each good: what it gives is a pair's character, and no key is a pair with itself
+  pub good-character : each-good l ≡ true → (c : ℕ) → pair-of l a b ≡ some c → is-pair-character c ≡ true
+  pub not-itself : each-good l ≡ true → is-pair l a a ≡ false
 
 -- no pairs, T_s and N in range
 abbrev pub NoPairsGood : ℕ → ℕ → Type 0
