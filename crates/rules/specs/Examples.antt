@@ -163,7 +163,7 @@ held-down =
     example "an up that comes alone" usual (up 21 0 ∷ answered 0 ∷ down 21 10 ∷ up 24 20 ∷ nothing ∷ rests (S2 (key 21) (at 10)) ∷ []) ∷
     example "a function key" usual (down 21 0 ∷ arrives 5 0 10 ∷ text (か ∷ []) ∷ down 21 20 ∷ rests S1 ∷ []) ∷
     example "a seventh key" usual
-    (down 0 0 ∷ down 1 0 ∷ down 2 0 ∷ down 3 0 ∷ down 4 0 ∷ down 30 0 ∷ answered 0 ∷ down 21 0 ∷ answered 11 ∷
+    (down 0 0 ∷ down 2 0 ∷ down 3 0 ∷ down 4 0 ∷ down 5 0 ∷ down 30 0 ∷ answered 0 ∷ down 21 0 ∷ answered 11 ∷
     rests (S2 (key 30) (at 0)) ∷ thumb Right 0 ∷ answered 0 ∷ rests (S4 (key 30) (at 0) Right (at 0)) ∷ thumb-up Right 0 ∷ answered 0 ∷
     arrives 5 0 0 ∷ answered 0 ∷ rests S1 ∷ down 31 0 ∷ answered 3 ∷ down 21 (largest-stamp + 1) ∷ answered 4 ∷ down 4 5 ∷ answered 0 ∷
     down 21 4 ∷ answered 5 ∷ up 4 5 ∷ down 21 5 ∷ answered 0 ∷ rests (S2 (key 21) (at 5)) ∷ []) ∷ []
