@@ -286,7 +286,7 @@ trabeculon_drill trabeculon_write_drill(uint16_t t, uint8_t j, uint8_t l,
  * o        when O was pressed: states 3, 4, 5, 6
  * r        when O was released: state 6
  * held     bit k, counted from the lowest as bit 0, is 1 if key k is held: it
- *          went down and not up since. 0 in a fresh machine
+ *          went down and not up since, in accepted events. 0 in a fresh machine
  * t, j, l, the settings T, J, L and solo, as trabeculon_open was given them
  * solo
  * state    1  nothing
@@ -320,9 +320,12 @@ trabeculon_drill trabeculon_write_drill(uint16_t t, uint8_t j, uint8_t l,
  * flat/specs/LosesNothing.antt); events keep it well formed (keeps-formed in
  * KeyboardFacts, keyboard/specs/KeyboardFacts.antt); held is a set of keys, and
  * its ones are counted as keys (HeldFacts and CountsKeys,
- * rules/specs/HeldFacts.antt); M is held, and at most 6 are, after any events
- * from a fresh machine on (HeldInSequences, rules/specs/HeldRules.antt).
- * Tested: the 48 bytes (below, and tests/c/live_keyboard.c).
+ * rules/specs/HeldFacts.antt); after any events from a fresh machine on a key
+ * is held as its accepted downs and ups say, M is held, and at most 6 are
+ * (HeldInSequences, rules/specs/HeldRules.antt). Which bit is whose is said by
+ * the definitions is-held (rules/specs/Held.antt) and flat
+ * (flat/specs/Fields.antt). Tested: the 48 bytes (below, and
+ * tests/c/live_keyboard.c).
  */
 typedef struct {
     trabeculon_stamp last;
