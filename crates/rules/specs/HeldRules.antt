@@ -60,7 +60,7 @@ HeldAfterwards m e =
     step m e .number ≡ 0
     → (k : Key) → is-held (step m e .machine .held) k ≡ held-then (e .kind) (e .key) k (is-held (m .held) k)
 
--- the same after accepted events, one after the other
+-- whether key k is held after accepted events, one after the other
 abbrev pub held-through : Key → List Event → Bool → Bool
 held-through k [] before = before
 held-through k (e ∷ es) before = held-through k es (held-then (e .kind) (e .key) k before)
