@@ -15,7 +15,7 @@ pub fn is_held(held: u32, key: Key) -> bool
     ensures { λ r. ⌜ r ≡ is-held held key ⌝ }
 {
     if is_key(key) {
-        return (held >> key.0) % 2 == 1;
+        return (held >> key.0) & 1 == 1;
     }
     false
 }
