@@ -316,7 +316,8 @@ trabeculon_drill trabeculon_write_drill(uint16_t t, uint8_t j, uint8_t l,
  *
  * It is 48 bytes with no padding, so two can be compared byte for byte.
  *
- * Proved: every machine has one form in numbers, which names it (LosesNothing,
+ * Proved: every machine whose held set has 32 bits, as all here have, has one
+ * form in numbers, which names it (LosesNothing and AllFit,
  * flat/specs/LosesNothing.antt); events keep it well formed (keeps-formed in
  * KeyboardFacts, keyboard/specs/KeyboardFacts.antt); held is a set of keys, and
  * its ones are counted as keys (HeldFacts and CountsKeys,
@@ -544,9 +545,9 @@ trabeculon_asked trabeculon_distance(trabeculon_machine machine,
  *
  * It is 104 bytes with no padding.
  *
- * Proved: the numbers lose nothing of a reader and name it (ReadersBack,
- * host/specs/ReadersBack.antt, over reader-numbers and reader-named,
- * Readers.antt); which are well formed (formed, keylog/specs/Pieces.antt), and
+ * Proved: the numbers lose nothing of a reader, its machine's held set having
+ * 32 bits as above, and name it (ReadersBack, host/specs/ReadersBack.antt, over
+ * reader-numbers and reader-named, Readers.antt); which are well formed (formed, keylog/specs/Pieces.antt), and
  * that calls keep them so (piece-goes-on and end-goes-on in InPiecesFacts).
  * Tested: the 104 bytes (below, and tests/c/read_pieces.c).
  */
