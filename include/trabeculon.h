@@ -547,8 +547,9 @@ trabeculon_asked trabeculon_distance(trabeculon_machine machine,
  *
  * Proved: the numbers lose nothing of a reader, its machine's held set having
  * 32 bits as above, and name it (ReadersBack, host/specs/ReadersBack.antt, over
- * reader-numbers and reader-named, Readers.antt); which are well formed (formed, keylog/specs/Pieces.antt), and
- * that calls keep them so (piece-goes-on and end-goes-on in InPiecesFacts).
+ * reader-numbers and reader-named, Readers.antt); which are well formed
+ * (formed, keylog/specs/Pieces.antt), and that calls keep them so
+ * (piece-goes-on and end-goes-on in InPiecesFacts).
  * Tested: the 104 bytes (below, and tests/c/read_pieces.c).
  */
 typedef struct {
