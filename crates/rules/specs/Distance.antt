@@ -5,6 +5,7 @@ use lib.Dec.{ltb}
 use lib.IntN.{ℤ, pos, _-ℤ_}
 use Rattle.rules.specs.Choice.{if_then_else_}
 use Rattle.rules.specs.Numbers.{largest-stamp}
+use Rattle.rules.specs.Pairs.{Lent, lent-good}
 use Rattle.rules.specs.States.{deadline, well-formed}
 use Rattle.rules.specs.declared.Stamp.{Stamp}
 use Rattle.rules.specs.declared.Machine.{Machine}
@@ -32,8 +33,12 @@ at-stamp last now d =
     if ltb largest-stamp (now .0) then not-answered 4 else
     if ltb (now .0) (last .0) then not-answered 5 else record { number = 0; distance = d }
 
--- 2, state not well formed; then the stamp
-unfoldable pub asking : Machine → Stamp → Asking
-asking m now =
-    if well-formed m then at-stamp (m .last) now (distance-to now (deadline (m .settings) (m .resting)))
+-- 2, state not well formed; then the stamp: with a list that is accepted
+unfoldable pub asking-with : Lent → Machine → Stamp → Asking
+asking-with g m now =
+    if well-formed g m then at-stamp (m .last) now (distance-to now (deadline g (m .settings) (m .resting)))
     else not-answered 2
+
+-- 12, what is lent is not good (9/12), before anything else
+unfoldable pub asking : Lent → Machine → Stamp → Asking
+asking g m now = if lent-good g then asking-with g m now else not-answered 12

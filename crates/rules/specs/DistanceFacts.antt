@@ -7,6 +7,7 @@ use mathlib.Core.Path.{_≡_}
 use lib.IntN.{ℤ, pos, negsuc, _-ℤ_}
 use Rattle.rules.specs.Choice.{if_then_else_}
 use Rattle.rules.specs.Numbers.{largest-stamp}
+use Rattle.rules.specs.Pairs.{Lent}
 use Rattle.rules.specs.States.{later, deadline}
 use Rattle.rules.specs.OneEvent.{late, due-by}
 use Rattle.rules.specs.GivenBack.{Answer, acceptance, step}
@@ -43,35 +44,35 @@ only-last m t =
     }
 
 -- an accepted event that does the line "late", and nothing else
-abbrev pub late-line : Machine → Stamp → Answer
-late-line m t = acceptance m t (m .held) (late (m .settings) (m .resting))
+abbrev pub late-line : Lent → Machine → Stamp → Answer
+late-line g m t = acceptance m t (m .held) (late g (m .settings) (m .resting))
 
 -- an accepted event that does the line "late" if it is due, changes the last stamp, and nothing else
-abbrev pub only-time-passes : Machine → Stamp → Answer
-only-time-passes m t = if due-by t (deadline (m .settings) (m .resting)) then late-line m t else only-last m t
+abbrev pub only-time-passes : Lent → Machine → Stamp → Answer
+only-time-passes g m t = if due-by t (deadline g (m .settings) (m .resting)) then late-line g m t else only-last m t
 
--- of every machine and stamp
-abbrev pub TickIsTime : Machine → Stamp → Type 0
-TickIsTime m t = step m (tick t) .number ≡ 0 → step m (tick t) ≡ only-time-passes m t
+-- of everything lent, every machine and stamp
+abbrev pub TickIsTime : Lent → Machine → Stamp → Type 0
+TickIsTime g m t = step g m (tick t) .number ≡ 0 → step g m (tick t) ≡ only-time-passes g m t
 
--- Of every machine m and stamp now at which it answers. A tick is accepted if its number is 0.
-pub record DistanceFacts (m : Machine) (now : Stamp) : Type 0 where
+-- Of every machine m and stamp now at which it answers, with g lent. A tick is accepted if its number is 0.
+pub record DistanceFacts (g : Lent) (m : Machine) (now : Stamp) : Type 0 where
   -- a tick at the asked stamp commits something if and only if the answer is 0 or negative, and what it does is the line "late"
-  pub due-commits : DueOrOverdue (asking m now .distance) → step m (tick now) .items ≢ []
-  pub commits-due : step m (tick now) .items ≢ [] → DueOrOverdue (asking m now .distance)
-  pub due-is-late : DueOrOverdue (asking m now .distance) → step m (tick now) ≡ late-line m now
+  pub due-commits : DueOrOverdue (asking g m now .distance) → step g m (tick now) .items ≢ []
+  pub commits-due : step g m (tick now) .items ≢ [] → DueOrOverdue (asking g m now .distance)
+  pub due-is-late : DueOrOverdue (asking g m now .distance) → step g m (tick now) ≡ late-line g m now
   -- asked d milliseconds later, the answer is d less
   pub later-is-less : (d : ℕ) → now .0 + d ≤ largest-stamp
-      → asking m (later now d) ≡ record { number = 0; distance = less d (asking m now .distance) }
+      → asking g m (later now d) ≡ record { number = 0; distance = less d (asking g m now .distance) }
   -- n milliseconds are left: an accepted tick before that changes only the last stamp, and one at exactly n does the late line
-  pub early-tick : (n : ℕ) → asking m now .distance ≡ some (pos n) → (t : Stamp) → t .0 < now .0 + n
-      → step m (tick t) .number ≡ 0
-      → step m (tick t) ≡ only-last m t
-  pub tick-on-time : (n : ℕ) → asking m now .distance ≡ some (pos n) → now .0 + n ≤ largest-stamp
-      → step m (tick (later now n)) ≡ late-line m (later now n)
+  pub early-tick : (n : ℕ) → asking g m now .distance ≡ some (pos n) → (t : Stamp) → t .0 < now .0 + n
+      → step g m (tick t) .number ≡ 0
+      → step g m (tick t) ≡ only-last m t
+  pub tick-on-time : (n : ℕ) → asking g m now .distance ≡ some (pos n) → now .0 + n ≤ largest-stamp
+      → step g m (tick (later now n)) ≡ late-line g m (later now n)
   -- no deadline: no accepted tick changes more than the last stamp
-  pub never-due : asking m now .distance ≡ none → (t : Stamp) → step m (tick t) .number ≡ 0 → step m (tick t) ≡ only-last m t
+  pub never-due : asking g m now .distance ≡ none → (t : Stamp) → step g m (tick t) .number ≡ 0 → step g m (tick t) ≡ only-last m t
 
--- Of every machine and stamp: asking is refused as a tick with that stamp is, and Refusals.antt says when that is.
-abbrev pub SameRefusals : Machine → Stamp → Type 0
-SameRefusals m now = asking m now .number ≡ step m (tick now) .number
+-- Of everything lent, every machine and stamp: asking is refused as a tick with that stamp is, and Refusals.antt says when that is.
+abbrev pub SameRefusals : Lent → Machine → Stamp → Type 0
+SameRefusals g m now = asking g m now .number ≡ step g m (tick now) .number

@@ -10,6 +10,7 @@ use mathlib.Core.Path.{_≡_}
 use lib.IntN.{pos, negsuc}
 use Rattle.rules.specs.Numbers.{largest-stamp, settings-of, A, B, D, W, FJ}
 use Rattle.rules.specs.LayoutFacts.{key}
+use Rattle.rules.specs.Pairs.{Lent, no-pairs}
 use Rattle.rules.specs.States.{at}
 use Rattle.rules.specs.ZeroDelay.{Sending, backspace, sign}
 use Rattle.rules.specs.GivenBack.{Answer, step}
@@ -85,14 +86,18 @@ thumb-up O n = arrives 4 (thumb-key O) n
 abbrev pub tick : ℕ → Line
 tick n = arrives 6 0 n
 
--- An example: its name, the settings and its lines.
+-- An example: its name, what is lent, the settings and its lines.
 pub record Example : Type 0 where
   pub name : String
+  pub lent : Lent
   pub settings : Settings
   pub lines : List Line
 
+abbrev pub with-list : String → Lent → Settings → List Line → Example
+with-list n g s l = record { name = n; lent = g; settings = s; lines = l }
+
 abbrev pub example : String → Settings → List Line → Example
-example n s l = record { name = n; settings = s; lines = l }
+example n s l = with-list n no-pairs s l
 
 -- T=100, J=L=50, solo 0 unless said
 abbrev pub usual : Settings
@@ -202,18 +207,18 @@ distances =
 
 -- The lines as the rules have them: each thing that 01 says is replaced by what there is. es are the events so far, from a
 -- fresh state; n is the number that the last of them gave back, q what it sent.
-abbrev pub observed-lines : Settings → List Event → ℕ → List Sending → List Line → List Line
-observed-lines s es n q [] = []
-observed-lines s es n q (event e ∷ ls) =
-    event e ∷ observed-lines s (es ++ (e ∷ [])) (step (state s es) e .number) (step (state s es) e .sendings) ls
-observed-lines s es n q (text said ∷ ls) = text (items s es) ∷ observed-lines s es n q ls
-observed-lines s es n q (rests said ∷ ls) = rests (state s es .resting) ∷ observed-lines s es n q ls
-observed-lines s es n q (sent said ∷ ls) = sent q ∷ observed-lines s es n q ls
-observed-lines s es n q (answered said ∷ ls) = answered n ∷ observed-lines s es n q ls
-observed-lines s es n q (asked t said ∷ ls) = asked t (asking (state s es) (at t)) ∷ observed-lines s es n q ls
+abbrev pub observed-lines : Lent → Settings → List Event → ℕ → List Sending → List Line → List Line
+observed-lines g s es n q [] = []
+observed-lines g s es n q (event e ∷ ls) =
+    event e ∷ observed-lines g s (es ++ (e ∷ [])) (step g (state g s es) e .number) (step g (state g s es) e .sendings) ls
+observed-lines g s es n q (text said ∷ ls) = text (items g s es) ∷ observed-lines g s es n q ls
+observed-lines g s es n q (rests said ∷ ls) = rests (state g s es .resting) ∷ observed-lines g s es n q ls
+observed-lines g s es n q (sent said ∷ ls) = sent q ∷ observed-lines g s es n q ls
+observed-lines g s es n q (answered said ∷ ls) = answered n ∷ observed-lines g s es n q ls
+observed-lines g s es n q (asked t said ∷ ls) = asked t (asking g (state g s es) (at t)) ∷ observed-lines g s es n q ls
 
 abbrev pub observed : Example → Example
-observed x = example (x .name) (x .settings) (observed-lines (x .settings) [] 0 [] (x .lines))
+observed x = with-list (x .name) (x .lent) (x .settings) (observed-lines (x .lent) (x .settings) [] 0 [] (x .lines))
 
 -- The examples hold: what the rules give is what the table says.
 abbrev pub ExamplesHold : Type 0
@@ -238,10 +243,10 @@ gives n is q m = record { number = n; items = is; sendings = q; machine = m }
 -- 7/12 at such machines: only the held set says what is a repeat, what is a new press and what an up without a down, not what waits.
 -- The set is empty; or the keys 0 to 5; or 0 to 4 and 21.
 pub record ByHandHold : Type 0 where
-  pub up-as-tick : step (waits-21 0 0 0) (an-event 2 21 50) ≡ gives 0 [] [] (waits-21 0 50 0)
-  pub down-is-new : step (waits-21 0 0 0) (an-event 1 21 50) ≡ gives 0 (か ∷ []) (sign (code "か") ∷ []) (waits-21 50 50 (2 ^ 21))
-  pub down-refused : step (waits-21 0 0 63) (an-event 1 21 50) ≡ gives 11 [] [] (waits-21 0 0 63)
-  pub repeat-accepted : step (waits-21 0 0 (31 + 2 ^ 21)) (an-event 1 21 50) ≡ gives 0 [] [] (waits-21 0 50 (31 + 2 ^ 21))
+  pub up-as-tick : step no-pairs (waits-21 0 0 0) (an-event 2 21 50) ≡ gives 0 [] [] (waits-21 0 50 0)
+  pub down-is-new : step no-pairs (waits-21 0 0 0) (an-event 1 21 50) ≡ gives 0 (か ∷ []) (sign (code "か") ∷ []) (waits-21 50 50 (2 ^ 21))
+  pub down-refused : step no-pairs (waits-21 0 0 63) (an-event 1 21 50) ≡ gives 11 [] [] (waits-21 0 0 63)
+  pub repeat-accepted : step no-pairs (waits-21 0 0 (31 + 2 ^ 21)) (an-event 1 21 50) ≡ gives 0 [] [] (waits-21 0 50 (31 + 2 ^ 21))
 
 abbrev pub DistancesHold : Type 0
 DistancesHold = map observed distances ≡ distances

@@ -8,6 +8,7 @@ use lib.Dec.{ltb, eqb}
 use Rattle.rules.specs.Choice.{if_then_else_}
 use Rattle.rules.specs.Numbers.{largest-stamp, most-held}
 use Rattle.rules.specs.Held.{is-held, hold, release, how-many}
+use Rattle.rules.specs.Pairs.{Lent, lent-good}
 use Rattle.rules.specs.States.{is-key, well-formed}
 use Rattle.rules.specs.OneEvent.{Done, one-event}
 use Rattle.rules.specs.ZeroDelay.{signs, shown, Sending, sent}
@@ -93,9 +94,9 @@ abbrev pub judge-input : Machine → Event → Option Input → Verdict
 judge-input m e none = refused 3
 judge-input m e (some i) = judge-stamp m e i
 
--- the order on an event: 2, state not well formed; then 3, 4, 5, 11
-unfoldable pub judge : Machine → Event → Verdict
-judge m e = if well-formed m then judge-input m e (input (e .kind) (e .key)) else refused 2
+-- 2, state not well formed; then 3, 4, 5, 11
+unfoldable pub judge : Lent → Machine → Event → Verdict
+judge g m e = if well-formed g m then judge-input m e (input (e .kind) (e .key)) else refused 2
 
 -- What an event gives back: the number, the items committed, what is sent, and the state.
 pub record Answer : Type 0 where
@@ -118,10 +119,14 @@ acceptance m now h d =
       machine = record { settings = m .settings; resting = d .resting; last = now; held = h };
     }
 
-abbrev pub answer : Machine → Stamp → Verdict → Answer
-answer m now (refused n) = refusal m n
-answer m now (accepted i) = acceptance m now (held-after (m .held) i) (one-event (m .settings) now (m .resting) i)
+abbrev pub answer : Lent → Machine → Stamp → Verdict → Answer
+answer g m now (refused n) = refusal m n
+answer g m now (accepted i) = acceptance m now (held-after (m .held) i) (one-event g (m .settings) now (m .resting) i)
 
--- one step as a whole
-unfoldable pub step : Machine → Event → Answer
-step m e = answer m (e .stamp) (judge m e)
+-- one step, with a list that is accepted
+unfoldable pub step-with : Lent → Machine → Event → Answer
+step-with g m e = answer g m (e .stamp) (judge g m e)
+
+-- One step as a whole. The order on an event: 12, what is lent is not good (9/12), before anything else; then 2, 3, 4, 5, 11.
+unfoldable pub step : Lent → Machine → Event → Answer
+step g m e = if lent-good g then step-with g m e else refusal m 12

@@ -4,6 +4,8 @@ pub mod Layout
 pub mod LayoutFacts
 pub mod Held
 pub mod HeldFacts
+pub mod Pairs
+pub mod PairFacts
 pub mod States
 pub mod OneEvent
 pub mod ZeroDelay
@@ -17,6 +19,5 @@ pub mod SequenceFacts
 pub mod Distance
 pub mod DistanceFacts
 pub mod MovedClock
-pub mod Pairs
-pub mod PairFacts
+pub mod Before
 pub mod Examples

@@ -6,6 +6,7 @@ use mathlib.Core.List.{List, [], _∷_, map}
 use mathlib.Core.Logic.{_↔_}
 use mathlib.Core.Path.{_≡_}
 use Rattle.rules.specs.Numbers.{largest-stamp, in-range}
+use Rattle.rules.specs.Pairs.{Lent, lent-good}
 use Rattle.rules.specs.States.{at, later, fresh}
 use Rattle.rules.specs.ZeroDelay.{Sending}
 use Rattle.rules.specs.GivenBack.{Answer, step}
@@ -15,7 +16,7 @@ use Rattle.rules.specs.Distance.{asking}
 use Rattle.rules.specs.declared.Stamp.{Stamp}
 use Rattle.rules.specs.declared.Settings.{Settings}
 use Rattle.rules.specs.declared.Resting.{Resting}
-use Rattle.rules.specs.declared.Resting.the-variants.{S1, S2, S3, S4, S5, S6}
+use Rattle.rules.specs.declared.Resting.the-variants.{S1, S2, S3, S4, S5, S6, S7, S8}
 use Rattle.rules.specs.declared.Machine.{Machine}
 use Rattle.rules.specs.declared.Item.{Item}
 use Rattle.rules.specs.declared.Event.{Event}
@@ -35,6 +36,8 @@ moved-resting k (S3 O o) = S3 O (later o k)
 moved-resting k (S4 M m O o) = S4 M (later m k) O (later o k)
 moved-resting k (S5 O o M m) = S5 O (later o k) M (later m k)
 moved-resting k (S6 O o M m r) = S6 O (later o k) M (later m k) (later r k)
+moved-resting k (S7 M m K j) = S7 M (later m k) K (later j k)
+moved-resting k (S8 M m K j r) = S8 M (later m k) K (later j k) (later r k)
 
 -- and to every stamp of a machine, its last one too; settings and held keys stay
 abbrev pub moved-machine : ℕ → Machine → Machine
@@ -70,22 +73,22 @@ abbrev pub told-in : Machine → Event → Answer → List Told
 told-in x e r = told r ∷ []
 
 -- at each event of a sequence from a fresh state, an entry for each
-abbrev pub all-told : Settings → List Event → List Told
-all-told s es = along told-in (fresh s) es
+abbrev pub all-told : Lent → Settings → List Event → List Told
+all-told g s es = along g told-in (fresh s) es
 
--- Of every sequence from a fresh state, refused events among it. (A front of a sequence is a sequence: so the states are compared
--- after each event, and the distances between any two.)
-pub record ClockMoved (k : ℕ) (s : Settings) (es : List Event) : Type 0 where
+-- Of every sequence from a fresh state, refused events among it, with one g lent at every event and asking of both (9/12). (A front
+-- of a sequence is a sequence: so the states are compared after each event, and the distances between any two.)
+pub record ClockMoved (g : Lent) (k : ℕ) (s : Settings) (es : List Event) : Type 0 where
   -- at each event the same number, items and sendings
-  pub same-answers : all-told s (moved-events k es) ≡ all-told s es
+  pub same-answers : all-told g s (moved-events k es) ≡ all-told g s es
   -- the same state but for its stamps
-  pub states-moved : state s (moved-events k es) ≡ moved-state k (accepted-events s es) (state s es)
+  pub states-moved : state g s (moved-events k es) ≡ moved-state k (accepted-events g s es) (state g s es)
   -- asked at a stamp that moves too: the same number and the same signed distance
-  pub same-distance : (now : Stamp) → Stays k now → asking (state s (moved-events k es)) (later now k) ≡ asking (state s es) now
+  pub same-distance : (now : Stamp) → Stays k now → asking g (state g s (moved-events k es)) (later now k) ≡ asking g (state g s es) now
 
 -- the statement
 abbrev pub Clock-moved : Type 0
-Clock-moved = (k : ℕ) (s : Settings) (es : List Event) → AllStay k es → ClockMoved k s es
+Clock-moved = (g : Lent) (k : ℕ) (s : Settings) (es : List Event) → AllStay k es → ClockMoved g k s es
 
 -- Of every machine, also one that no sequence leaves: with every stamp of it moved, its last one too, each event and each asking
 -- is answered as before, and leaves what it left before, moved.
@@ -93,12 +96,12 @@ abbrev pub moved-answer : ℕ → Answer → Answer
 moved-answer k r =
     record { number = r .number; items = r .items; sendings = r .sendings; machine = moved-machine k (r .machine) }
 
-pub record MachineMoved (k : ℕ) (x : Machine) : Type 0 where
-  pub step-moved : (e : Event) → Stays k (e .stamp) → step (moved-machine k x) (moved-event k e) ≡ moved-answer k (step x e)
-  pub asking-moved : (now : Stamp) → Stays k now → asking (moved-machine k x) (later now k) ≡ asking x now
+pub record MachineMoved (g : Lent) (k : ℕ) (x : Machine) : Type 0 where
+  pub step-moved : (e : Event) → Stays k (e .stamp) → step g (moved-machine k x) (moved-event k e) ≡ moved-answer k (step g x e)
+  pub asking-moved : (now : Stamp) → Stays k now → asking g (moved-machine k x) (later now k) ≡ asking g x now
 
 abbrev pub Machine-moved : Type 0
-Machine-moved = (k : ℕ) (x : Machine) → Stays k (x .last) → MachineMoved k x
+Machine-moved = (g : Lent) (k : ℕ) (x : Machine) → Stays k (x .last) → MachineMoved g k x
 
 -- What an event's stamp is compared with: the stamp of the last accepted event, or 0 if there is none, which nothing is before.
 abbrev pub last-stamp : List Event → Stamp
@@ -108,13 +111,13 @@ last-stamp (e ∷ (f ∷ es)) = last-stamp (f ∷ es)
 
 -- Of every sequence from a fresh state: the first event that is accepted has no earlier stamp to be compared with, and refusal 5 is
 -- kept for every later one.
-pub record LastAccepted (s : Settings) (es : List Event) : Type 0 where
+pub record LastAccepted (g : Lent) (s : Settings) (es : List Event) : Type 0 where
   -- while nothing was accepted the state is the fresh one
-  pub still-fresh : accepted-events s es ≡ [] → state s es ≡ fresh s
-  pub last-is : state s es .last ≡ last-stamp (accepted-events s es)
+  pub still-fresh : accepted-events g s es ≡ [] → state g s es ≡ fresh s
+  pub last-is : state g s es .last ≡ last-stamp (accepted-events g s es)
   -- an event next to the sequence that no earlier check refuses is refused 5 exactly when its stamp is before that
-  pub gives-5 : (e : Event) → step (state s es) e .number ≡ 5
-      ↔ ((¬ NotAllowed e) × (¬ AboveLargest e) × (e .stamp .0 < last-stamp (accepted-events s es) .0))
+  pub gives-5 : (e : Event) → step g (state g s es) e .number ≡ 5
+      ↔ ((¬ NotAllowed e) × (¬ AboveLargest e) × (e .stamp .0 < last-stamp (accepted-events g s es) .0))
 
 abbrev pub Last-accepted : Type 0
-Last-accepted = (s : Settings) → in-range s ≡ true → (es : List Event) → LastAccepted s es
+Last-accepted = (g : Lent) → lent-good g ≡ true → (s : Settings) → in-range s ≡ true → (es : List Event) → LastAccepted g s es

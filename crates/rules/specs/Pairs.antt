@@ -1,15 +1,15 @@
--- Document 02, 9/12, "Two letters as a chord": what a desk lends, when it is accepted, and what is read off its list. Nothing else
--- speaks of pairs yet. PairFacts.antt has the laws and lists to try.
-use Prim.Native.Nat.{ℕ}
+-- Document 02, 9/12, "Two letters as a chord": what a desk lends, when it is accepted, what is read off its list, and the waits that
+-- come with it. PairFacts.antt has the laws and lists to try.
+use Prim.Native.Nat.{ℕ, _+_, _-_, _*_, max}
 use mathlib.Core.Bool.{Bool, true, false, not, _&&_, _||_}
 use mathlib.Core.List.{List, [], _∷_}
 use mathlib.Core.Option.{Option, none, some}
-use lib.Dec.{ltb, leb}
+use lib.Dec.{ltb, leb, eqb}
 use lib.ListN.{length}
 use Rattle.rules.specs.Choice.{if_then_else_}
-use Rattle.rules.specs.Numbers.{keys, within}
-use Rattle.rules.specs.OneEvent.{same-key}
+use Rattle.rules.specs.Numbers.{keys, within, up, A, D, FJ, W}
 use Rattle.rules.specs.declared.Key.{Key}
+use Rattle.rules.specs.declared.Settings.{Settings}
 
 -- A pair: two character keys, and the code point of the character that they give together.
 pub record Pair : Type 0 where
@@ -17,7 +17,7 @@ pub record Pair : Type 0 where
   pub second : Key
   pub character : ℕ
 
--- What is lent: the list of pairs, T_s in milliseconds and N in percent.
+-- What is lent with every event, tick and asking: the list of pairs, T_s in milliseconds and N in percent.
 pub record Lent : Type 0 where
   pub pairs : List Pair
   pub t-s : ℕ
@@ -37,6 +37,9 @@ N-least = 1
 
 abbrev pub N-most : ℕ
 N-most = 99
+
+unfoldable pub same-key : Key → Key → Bool
+same-key a b = eqb (a .0) (b .0)
 
 -- a pair names two keys, in this order
 unfoldable pub names : Pair → Key → Key → Bool
@@ -58,6 +61,14 @@ is-some (some c) = true
 -- two keys are a pair of the list
 abbrev pub is-pair : List Pair → Key → Key → Bool
 is-pair l a b = is-some (pair-of l a b)
+
+abbrev pub or-0 : Option ℕ → ℕ
+or-0 none = 0
+or-0 (some c) = c
+
+-- the character that the list gives two keys; 0, which is no character, where they are no pair
+abbrev pub pair-character : List Pair → Key → Key → ℕ
+pair-character l a b = or-0 (pair-of l a b)
 
 -- a key is in some pair of the list
 unfoldable pub in-some-pair : List Pair → Key → Bool
@@ -93,3 +104,35 @@ lent-good g =
     && each-good (g .pairs)
     && within T-s-least T-s-most (g .t-s)
     && within N-least N-most (g .n)
+
+-- No pairs. T_s and N are in range, and nothing hangs on them.
+abbrev pub no-pairs : Lent
+no-pairs = record { pairs = []; t-s = T-s-least; n = N-least }
+
+-- GN(x) = x(100-N)/N, for a lag x, rounded up
+unfoldable pub GN : ℕ → ℕ → ℕ
+GN n x = up (x * (100 - n)) n
+
+-- P = GN(T_s)
+unfoldable pub P : Lent → ℕ
+P g = GN (g .n) (g .t-s)
+
+-- How long a character waits alone: A. If its key is in some pair: the larger of A and P.
+unfoldable pub alone : Lent → Settings → Key → ℕ
+alone g s M = if in-some-pair (g .pairs) M then max (A s) (P g) else A s
+
+-- X where there are pairs: the largest of A, P and D
+unfoldable pub X-pairs : Lent → Settings → ℕ
+X-pairs g s = max (max (A s) (P g)) (D s)
+
+-- W where there are pairs: X-pairs + the largest of X-pairs, FJ(X-pairs) and T_s + P
+unfoldable pub W-pairs : Lent → Settings → ℕ
+W-pairs g s = X-pairs g s + max (max (X-pairs g s) (FJ s (X-pairs g s))) (g .t-s + P g)
+
+abbrev pub if-any : List Pair → ℕ → ℕ → ℕ
+if-any [] without with-pairs = without
+if-any (p ∷ l) without with-pairs = with-pairs
+
+-- the longest wait: W where there are no pairs
+unfoldable pub longest : Lent → Settings → ℕ
+longest g s = if-any (g .pairs) (W s) (W-pairs g s)

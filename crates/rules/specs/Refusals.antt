@@ -1,21 +1,26 @@
 -- Document 01, "Numbers given back": a number is given exactly when its row holds and no earlier check fired. The order on an
--- event is 2, 3, 4, 5, 11. The proof is proofs/Refusals.antt.
+-- event is 12, 2, 3, 4, 5, 11. The proof is proofs/Refusals.antt.
 use Prim.Native.Nat.{_<_}
-use mathlib.Core.Bool.{true, false}
+use mathlib.Core.Bool.{false}
 use mathlib.Core.List.{[]}
 use mathlib.Core.Logic.{_↔_, _≢_}
 use mathlib.Core.Option.{none}
 use mathlib.Core.Path.{_≡_}
 use Rattle.rules.specs.Numbers.{largest-stamp, most-held}
 use Rattle.rules.specs.Held.{is-held, how-many}
+use Rattle.rules.specs.Pairs.{Lent, lent-good}
 use Rattle.rules.specs.States.{well-formed}
 use Rattle.rules.specs.GivenBack.{Answer, input, step}
 use Rattle.rules.specs.declared.Machine.{Machine}
 use Rattle.rules.specs.declared.Event.{Event}
 
--- The rows of the table. 2: state not well formed
-abbrev pub NotWellFormed : Machine → Type 0
-NotWellFormed m = well-formed m ≡ false
+-- The rows of the table. 12: the list of pairs, T_s or N is not good (9/12)
+abbrev pub NotGood : Lent → Type 0
+NotGood g = lent-good g ≡ false
+
+-- 2: state not well formed
+abbrev pub NotWellFormed : Lent → Machine → Type 0
+NotWellFormed g m = well-formed g m ≡ false
 
 -- 3: kind or key not allowed
 abbrev pub NotAllowed : Event → Type 0
@@ -39,14 +44,16 @@ pub record LeftAsGiven (m : Machine) (r : Answer) : Type 0 where
   pub no-sendings : r .sendings ≡ []
   pub machine-as-given : r .machine ≡ m
 
--- What holds of every machine and event.
-pub record Refusals (m : Machine) (e : Event) : Type 0 where
-  pub gives-2 : step m e .number ≡ 2 ↔ NotWellFormed m
-  pub gives-3 : step m e .number ≡ 3 ↔ ((¬ NotWellFormed m) × NotAllowed e)
-  pub gives-4 : step m e .number ≡ 4 ↔ ((¬ NotWellFormed m) × (¬ NotAllowed e) × AboveLargest e)
-  pub gives-5 : step m e .number ≡ 5 ↔ ((¬ NotWellFormed m) × (¬ NotAllowed e) × (¬ AboveLargest e) × BeforeLast m e)
-  pub gives-11 : step m e .number ≡ 11
-      ↔ ((¬ NotWellFormed m) × (¬ NotAllowed e) × (¬ AboveLargest e) × (¬ BeforeLast m e) × TooMany m e)
-  pub gives-0 : step m e .number ≡ 0
-      ↔ ((¬ NotWellFormed m) × (¬ NotAllowed e) × (¬ AboveLargest e) × (¬ BeforeLast m e) × (¬ TooMany m e))
-  pub refused : step m e .number ≢ 0 → LeftAsGiven m (step m e)
+-- What holds of everything lent, every machine and event.
+pub record Refusals (g : Lent) (m : Machine) (e : Event) : Type 0 where
+  pub gives-12 : step g m e .number ≡ 12 ↔ NotGood g
+  pub gives-2 : step g m e .number ≡ 2 ↔ ((¬ NotGood g) × NotWellFormed g m)
+  pub gives-3 : step g m e .number ≡ 3 ↔ ((¬ NotGood g) × (¬ NotWellFormed g m) × NotAllowed e)
+  pub gives-4 : step g m e .number ≡ 4 ↔ ((¬ NotGood g) × (¬ NotWellFormed g m) × (¬ NotAllowed e) × AboveLargest e)
+  pub gives-5 : step g m e .number ≡ 5
+      ↔ ((¬ NotGood g) × (¬ NotWellFormed g m) × (¬ NotAllowed e) × (¬ AboveLargest e) × BeforeLast m e)
+  pub gives-11 : step g m e .number ≡ 11
+      ↔ ((¬ NotGood g) × (¬ NotWellFormed g m) × (¬ NotAllowed e) × (¬ AboveLargest e) × (¬ BeforeLast m e) × TooMany m e)
+  pub gives-0 : step g m e .number ≡ 0
+      ↔ ((¬ NotGood g) × (¬ NotWellFormed g m) × (¬ NotAllowed e) × (¬ AboveLargest e) × (¬ BeforeLast m e) × (¬ TooMany m e))
+  pub refused : step g m e .number ≢ 0 → LeftAsGiven m (step g m e)

@@ -7,6 +7,7 @@ use lib.Dec.{eqb}
 use lib.ListN.{length}
 use Rattle.rules.specs.Choice.{if_then_else_}
 use Rattle.rules.specs.Numbers.{within}
+use Rattle.rules.specs.Pairs.{Lent}
 use Rattle.rules.specs.States.{fresh}
 use Rattle.rules.specs.ZeroDelay.{signs, Sending, backspace, sign}
 use Rattle.rules.specs.GivenBack.{is-new, Answer, step}
@@ -14,21 +15,21 @@ use Rattle.rules.specs.declared.Stamp.{Stamp}
 use Rattle.rules.specs.declared.Key.{Key}
 use Rattle.rules.specs.declared.Settings.{Settings}
 use Rattle.rules.specs.declared.Resting.{Resting}
-use Rattle.rules.specs.declared.Resting.the-variants.{S1, S2, S3, S4, S5, S6}
+use Rattle.rules.specs.declared.Resting.the-variants.{S1, S2, S3, S4, S5, S6, S7, S8}
 use Rattle.rules.specs.declared.Machine.{Machine}
 use Rattle.rules.specs.declared.Item.{Item}
-use Rattle.rules.specs.declared.Item.the-variants.{Character, Mark}
+use Rattle.rules.specs.declared.Item.the-variants.{Character, Mark, Together}
 use Rattle.rules.specs.declared.Event.{Event}
 
--- The state that a sequence leaves: every event gets the state that the last one handed back.
-abbrev pub after : Machine → List Event → Machine
-after m [] = m
-after m (e ∷ es) = after (step m e .machine) es
+-- The state that a sequence leaves: every event gets the state that the last one handed back. One g serves the whole sequence (9/12).
+abbrev pub after : Lent → Machine → List Event → Machine
+after g m [] = m
+after g m (e ∷ es) = after g (step g m e .machine) es
 
 -- What f reads off each event, the state that it got and its answer, joined along the sequence.
-abbrev pub along : {X : Type 0} → (Machine → Event → Answer → List X) → Machine → List Event → List X
-along f m [] = []
-along f m (e ∷ es) = f m e (step m e) ++ along f (step m e .machine) es
+abbrev pub along : {X : Type 0} → Lent → (Machine → Event → Answer → List X) → Machine → List Event → List X
+along g f m [] = []
+along g f m (e ∷ es) = f m e (step g m e) ++ along g f (step g m e .machine) es
 
 -- number 0: the event was accepted
 abbrev pub is-accepted : Answer → Bool
@@ -64,13 +65,14 @@ items-in m e r = r .items
 abbrev pub sendings-in : Machine → Event → Answer → List Sending
 sendings-in m e r = r .sendings
 
--- the keys of the committed characters, an empty face too
+-- the keys of the committed characters, an empty face too; of a pair's both, first pressed first (9/12)
 abbrev pub characters : List Item → List Key
 characters [] = []
 characters (Character k f ∷ is) = k ∷ characters is
 characters (Mark O ∷ is) = characters is
+characters (Together M K c ∷ is) = M ∷ (K ∷ characters is)
 
--- what waits is the resting state's M
+-- what waits is the resting state's M, and behind it K where there is one
 abbrev pub waiting : Resting → List Press
 waiting S1 = []
 waiting (S2 M m) = press M m ∷ []
@@ -78,6 +80,8 @@ waiting (S3 O o) = []
 waiting (S4 M m O o) = press M m ∷ []
 waiting (S5 O o M m) = press M m ∷ []
 waiting (S6 O o M m r) = press M m ∷ []
+waiting (S7 M m K k) = press M m ∷ (press K k ∷ [])
+waiting (S8 M m K k r) = press M m ∷ (press K k ∷ [])
 
 -- without its last sign
 abbrev pub without-last : List ℕ → List ℕ
@@ -97,25 +101,25 @@ signs-among [] = []
 signs-among (backspace ∷ more) = signs-among more
 signs-among (sign c ∷ more) = c ∷ signs-among more
 
--- What is read off a sequence of events es from a fresh state with settings s.
-module _ (s : Settings) (es : List Event) where
+-- What is read off a sequence of events es from a fresh state with settings s, with g lent at every event.
+module _ (g : Lent) (s : Settings) (es : List Event) where
   abbrev pub state : Machine
-  state = after (fresh s) es
+  state = after g (fresh s) es
 
   abbrev pub presses : List Press
-  presses = along press-in (fresh s) es
+  presses = along g press-in (fresh s) es
 
   abbrev pub accepted-events : List Event
-  accepted-events = along accepted-in (fresh s) es
+  accepted-events = along g accepted-in (fresh s) es
 
   abbrev pub accepted-key-events : List Event
-  accepted-key-events = along key-event-in (fresh s) es
+  accepted-key-events = along g key-event-in (fresh s) es
 
   abbrev pub items : List Item
-  items = along items-in (fresh s) es
+  items = along g items-in (fresh s) es
 
-  -- Each committed character answers the first press not yet answered. So a press is answered, and that is committed, when
-  -- more characters are committed than presses came before it.
+  -- Each committed character answers the first press not yet answered, a pair's the first two. So a press is answered, and that is
+  -- committed, when more characters are committed than presses came before it.
   abbrev pub Committed : List Press → Type 0
   Committed before = length before < length (characters items)
 
@@ -124,4 +128,4 @@ module _ (s : Settings) (es : List Event) where
   line = signs items
 
   abbrev pub screen : List ℕ
-  screen = typed [] (along sendings-in (fresh s) es)
+  screen = typed [] (along g sendings-in (fresh s) es)

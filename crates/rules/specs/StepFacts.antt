@@ -1,22 +1,29 @@
--- What document 01 says of a step besides its rules: it commits 0 to 2, and sends at most 4. And its three cases of what is sent,
--- of which `sent` is the form for any number of shown signs. The proofs are in proofs/StepFacts.antt.
-use Prim.Native.Nat.{ℕ, _≤_}
-use mathlib.Core.List.{List, [], _∷_}
+-- What document 01 says of a step besides its rules: it commits 0 to 2, and sends at most 4; and 9/12 of late lines that follow one
+-- another: none ever does. And 01's three cases of what is sent, of which `sent` is the form for any number of shown signs. The
+-- proofs are in proofs/StepFacts.antt.
+use Prim.Native.Nat.{ℕ, suc, _≤_}
+use mathlib.Core.Bool.{false}
+use mathlib.Core.List.{List, [], _∷_, _++_}
 use mathlib.Core.Logic.{_≢_}
 use mathlib.Core.Path.{_≡_}
-use lib.ListN.{length}
-use Rattle.rules.specs.States.{well-formed}
+use lib.ListN.{length, replicate}
+use Rattle.rules.specs.Choice.{if_then_else_}
+use Rattle.rules.specs.Pairs.{Lent}
+use Rattle.rules.specs.States.{deadline, well-formed}
+use Rattle.rules.specs.OneEvent.{_leaving_, nothing, late, due-by, settle-in, settle}
 use Rattle.rules.specs.ZeroDelay.{shown, Sending, backspace, send, sent}
 use Rattle.rules.specs.GivenBack.{step}
 use Rattle.rules.specs.Demand3.{Begins}
+use Rattle.rules.specs.declared.Stamp.{Stamp}
+use Rattle.rules.specs.declared.Settings.{Settings}
 use Rattle.rules.specs.declared.Resting.{Resting}
 use Rattle.rules.specs.declared.Machine.{Machine}
 use Rattle.rules.specs.declared.Event.{Event}
 
--- of every machine and event
-pub record StepSizes (m : Machine) (e : Event) : Type 0 where
-  pub at-most-2-items : length (step m e .items) ≤ 2
-  pub at-most-4-sendings : length (step m e .sendings) ≤ 4
+-- of everything lent, every machine and event
+pub record StepSizes (g : Lent) (m : Machine) (e : Event) : Type 0 where
+  pub at-most-2-items : length (step g m e .items) ≤ 2
+  pub at-most-4-sendings : length (step g m e .sendings) ≤ 4
 
 -- of every sign p and signs q
 pub record SendingRule (p : ℕ) (q : List ℕ) : Type 0 where
@@ -32,21 +39,32 @@ abbrev pub NoneIs0 : List ℕ → Type 0
 NoneIs0 [] = Unit {0}
 NoneIs0 (c ∷ q) = (c ≢ 0) × NoneIs0 q
 
--- What a step sends is a backspace or none, and then at most three signs, whose words are not 0. So it has room in a flag and
--- three words.
-pub data Sendable : List Sending → Type 0 where
-  plainly : (q : List ℕ) → length q ≤ 3 → NoneIs0 q → Sendable (send q)
-  behind-backspace : (q : List ℕ) → length q ≤ 3 → NoneIs0 q → Sendable (backspace ∷ send q)
+-- What a step sends is some backspaces, two at most, and then signs whose words are not 0, three at most, and at most four of both. So
+-- it has room in a count and three words.
+pub record Sendable (sendings : List Sending) : Type 0 where
+  pub backspaces : ℕ
+  pub signs : List ℕ
+  pub sends : sendings ≡ replicate backspaces backspace ++ send signs
+  pub at-most-2-backspaces : backspaces ≤ 2
+  pub at-most-3-signs : length signs ≤ 3
+  pub none-is-0 : NoneIs0 signs
 
--- of every machine and event
-abbrev pub StepSendable : Machine → Event → Type 0
-StepSendable m e = Sendable (step m e .sendings)
+-- of everything lent, every machine and event
+abbrev pub StepSendable : Lent → Machine → Event → Type 0
+StepSendable g m e = Sendable (step g m e .sendings)
 
 -- An event leaves every machine as well formed as it was: an accepted one leaves a well-formed machine well formed, and a
 -- refused one hands the state back as given.
-abbrev pub StaysFormed : Machine → Event → Type 0
-StaysFormed m e = well-formed (step m e .machine) ≡ well-formed m
+abbrev pub StaysFormed : Lent → Machine → Event → Type 0
+StaysFormed g m e = well-formed g (step g m e .machine) ≡ well-formed g m
 
--- at most one sign is shown
-abbrev pub OneShown : Resting → Type 0
-OneShown x = length (shown x) ≤ 1
+-- at most two signs are shown
+abbrev pub TwoShown : Resting → Type 0
+TwoShown x = length (shown x) ≤ 2
+
+-- A late line leaves no state that is due. So after the first line nothing follows, however many are allowed, and nothing that is
+-- due is left.
+pub record LateOnce (g : Lent) (s : Settings) (now : Stamp) (x : Resting) : Type 0 where
+  pub late-rests : (t : Stamp) → due-by t (deadline g s (late g s x .resting)) ≡ false
+  pub once : (n : ℕ) → settle-in (suc n) g s now x ≡ (if due-by now (deadline g s x) then late g s x else (nothing leaving x))
+  pub none-left : due-by now (deadline g s (settle g s now x .resting)) ≡ false

@@ -28,7 +28,8 @@ pub struct Settings {
     pub solo: u8,
 }
 
-// What rests between two events. M is a character key pressed at m, O a thumb pressed at o, r the thumb's release.
+// What rests between two events. M is a character key pressed at m, K a second one pressed at k, O a thumb pressed at o; r is the
+// release of the thumb in S6, of M in S8.
 pub enum Resting {
     S1,
     // M, m
@@ -41,6 +42,10 @@ pub enum Resting {
     S5(Thumb, Stamp, Key, Stamp),
     // O, o, then M, m, then the thumb's release r
     S6(Thumb, Stamp, Key, Stamp, Stamp),
+    // M, m, then K, k: a pair of the lent list
+    S7(Key, Stamp, Key, Stamp),
+    // M, m, then K, k, then M's release r
+    S8(Key, Stamp, Key, Stamp, Stamp),
 }
 
 // One keyboard: its settings, what rests, the last accepted stamp, and the set of held character keys, one bit a key.
@@ -57,10 +62,12 @@ pub enum Face {
     With(Thumb),
 }
 
-// What a step commits: a character, by its key and face, or the mark of a lone thumb press.
+// What a step commits: a character, by its key and face; the mark of a lone thumb press; or the character of a pair, with its two
+// keys, the first pressed first.
 pub enum Item {
     Character(Key, Face),
     Mark(Thumb),
+    Together(Key, Key, u16),
 }
 
 // An event as it arrives: any kind, any key, any stamp.
