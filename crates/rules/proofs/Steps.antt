@@ -9,9 +9,10 @@ use borrow.Author.Tests.{ltb-true, ltb-false, le-ltb, eqb-true, eqb-false}
 use Rattle.rules.specs.Choice.{if_then_else_}
 use Rattle.rules.specs.Numbers.{keys, largest-stamp, most-held, within, in-range}
 use Rattle.rules.specs.Held.{is-held, hold, release, how-many, held-formed}
-use Rattle.rules.specs.States.{at, is-key, keys-below, at-or-before, stamps-by, in-order, well-formed}
+use Rattle.rules.specs.Pairs.{Lent, lent-good}
+use Rattle.rules.specs.States.{at, is-key, keys-below, at-or-before, stamps-by, in-order, pair-lent, well-formed}
 use Rattle.rules.specs.OneEvent.{one-event}
-use Rattle.rules.specs.GivenBack.{with-character, with-thumb, with-0, input, acts-as, held-after, Verdict, refused, accepted, is-new, too-many, judge, judge-input, Answer, refusal, acceptance, answer, step}
+use Rattle.rules.specs.GivenBack.{with-character, with-thumb, with-0, input, acts-as, held-after, Verdict, refused, accepted, is-new, too-many, judge, judge-input, Answer, refusal, acceptance, answer, step-with, step}
 use Rattle.rules.specs.Sequences.{Press, press}
 use Rattle.rules.specs.HeldRules.{held-then}
 use Rattle.rules.specs.declared.Stamp.{Stamp}
@@ -138,16 +139,18 @@ parses kind k =
     not-allowed)))))
 
 -- the held set of a well-formed machine
-pub machine-formed : (m : Machine) → well-formed m ≡ true → FormedSet (m .held)
+pub machine-formed : (g : Lent) (m : Machine) → well-formed g m ≡ true → FormedSet (m .held)
 unfolding well-formed
-machine-formed m w =
+machine-formed g m w =
     let y = m .resting in
-    let rest = in-range (m .settings) && keys-below y && stamps-by (m .last) y && at-or-before (m .last) (at largest-stamp) && in-order y in
-    set-formed (m .held) (and-eq-true-iff rest (held-formed (m .held)) .0 w .1)
+    let front = in-range (m .settings) && keys-below y && stamps-by (m .last) y && at-or-before (m .last) (at largest-stamp) && in-order y in
+    let fronts = and-eq-true-iff (front && held-formed (m .held)) (pair-lent g y) .0 w .0 in
+    set-formed (m .held) (and-eq-true-iff front (held-formed (m .held)) .0 fronts .1)
 
 -- all that was tested of an event with the input i that is accepted, and what follows for what i acts as
-pub record Accepted (m : Machine) (e : Event) (i : Input) : Type 0 where
-  pub was-well-formed : well-formed m ≡ true
+pub record Accepted (g : Lent) (m : Machine) (e : Event) (i : Input) : Type 0 where
+  pub was-good : lent-good g ≡ true
+  pub was-well-formed : well-formed g m ≡ true
   pub is-input : input (e .kind) (e .key) ≡ some i
   pub not-above : e .stamp .0 ≤ largest-stamp
   pub not-before : m .last .0 ≤ e .stamp .0
@@ -158,21 +161,21 @@ pub record Accepted (m : Machine) (e : Event) (i : Input) : Type 0 where
   pub stays-formed : FormedSet (held-after (m .held) (acts-as (m .held) i))
 
 -- what an accepted event gives back
-abbrev pub taken : Machine → Event → Input → Answer
-taken m e i =
-    acceptance m (e .stamp) (held-after (m .held) i) (one-event (m .settings) (e .stamp) (m .resting) i)
+abbrev pub taken : Lent → Machine → Event → Input → Answer
+taken g m e i =
+    acceptance m (e .stamp) (held-after (m .held) i) (one-event g (m .settings) (e .stamp) (m .resting) i)
 
--- by the verdict: refused, or accepted with all that was tested
+-- by the verdict, with what is lent good: refused, or accepted with all that was tested
 pub judge-cases :
-    (P : Verdict → Type 0) (m : Machine) (e : Event)
+    (P : Verdict → Type 0) (g : Lent) (m : Machine) (e : Event) → lent-good g ≡ true
     → ((n : ℕ) → eqb n 0 ≡ false → P (refused n))
-    → ((i : Input) → Accepted m e i → P (accepted (acts-as (m .held) i)))
-    → P (judge m e)
+    → ((i : Input) → Accepted g m e i → P (accepted (acts-as (m .held) i)))
+    → P (judge g m e)
 unfolding judge is-new
-judge-cases P m e no-way yes-way =
-    by-test P (well-formed m) (λ w. on-input w (input (e .kind) (e .key)) refl (parses (e .kind) (e .key))) (λ _. no-way 2 refl)
+judge-cases P g m e good no-way yes-way =
+    by-test P (well-formed g m) (λ w. on-input w (input (e .kind) (e .key)) refl (parses (e .kind) (e .key))) (λ _. no-way 2 refl)
   where
-    on-input : well-formed m ≡ true → (o : Option Input) → input (e .kind) (e .key) ≡ o → Allowed (e .kind) (e .key) o
+    on-input : well-formed g m ≡ true → (o : Option Input) → input (e .kind) (e .key) ≡ o → Allowed (e .kind) (e .key) o
         → P (judge-input m e o)
     on-input w none h not-allowed = no-way 3 refl
     on-input w (some i) h (allowed a) =
@@ -180,6 +183,7 @@ judge-cases P m e no-way yes-way =
         (λ low. by-test P (ltb (e .stamp .0) (m .last .0)) (λ _. no-way 5 refl)
         (λ late. by-test P (too-many m e) (λ _. no-way 11 refl)
         (λ room. yes-way i (record {
+          was-good = good;
           was-well-formed = w;
           is-input = h;
           not-above = ltb-false _ _ low;
@@ -187,22 +191,25 @@ judge-cases P m e no-way yes-way =
           key-event = a .key-event;
           presses = a .presses (m .held) (e .stamp);
           key-below = a .key-below (m .held);
-          stays-formed = a .room (m .held) (machine-formed m w) room;
+          stays-formed = a .room (m .held) (machine-formed g m w) room;
           keys-held = a .keys-held (m .held);
         }))))
 
 pub step-cases :
-    (P : Answer → Type 0) (m : Machine) (e : Event)
+    (P : Answer → Type 0) (g : Lent) (m : Machine) (e : Event)
     → ((n : ℕ) → eqb n 0 ≡ false → P (refusal m n))
-    → ((i : Input) → Accepted m e i → P (taken m e (acts-as (m .held) i)))
-    → P (step m e)
-unfolding step
-step-cases P m e no-way yes-way = judge-cases (λ v. P (answer m (e .stamp) v)) m e no-way yes-way
+    → ((i : Input) → Accepted g m e i → P (taken g m e (acts-as (m .held) i)))
+    → P (step g m e)
+unfolding step step-with
+step-cases P g m e no-way yes-way =
+    by-test P (lent-good g)
+    (λ good. judge-cases (λ v. P (answer g m (e .stamp) v)) g m e good no-way yes-way)
+    (λ _. no-way 12 refl)
 
 -- an event that passes every test is accepted
-pub step-accepted : (m : Machine) (e : Event) (i : Input) → well-formed m ≡ true → input (e .kind) (e .key) ≡ some i
-    → e .stamp .0 ≤ largest-stamp → m .last .0 ≤ e .stamp .0 → too-many m e ≡ false
-    → step m e ≡ taken m e (acts-as (m .held) i)
-unfolding step judge
-step-accepted m e i w h low late room =
-    rw (w, h, le-ltb largest-stamp (e .stamp .0) low, le-ltb (e .stamp .0) (m .last .0) late, room)
+pub step-accepted : (g : Lent) (m : Machine) (e : Event) (i : Input) → lent-good g ≡ true → well-formed g m ≡ true
+    → input (e .kind) (e .key) ≡ some i → e .stamp .0 ≤ largest-stamp → m .last .0 ≤ e .stamp .0 → too-many m e ≡ false
+    → step g m e ≡ taken g m e (acts-as (m .held) i)
+unfolding step step-with judge
+step-accepted g m e i good w h low late room =
+    rw (good, w, h, le-ltb largest-stamp (e .stamp .0) low, le-ltb (e .stamp .0) (m .last .0) late, room)
