@@ -5,6 +5,7 @@ pub mod LayoutFacts
 pub mod Refusals
 pub mod Examples
 pub mod Steps
+pub mod Late
 pub mod StepFacts
 pub mod Bounds
 pub mod Kept
