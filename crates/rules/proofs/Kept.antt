@@ -6,7 +6,7 @@ use mathlib.Core.Bool.{true, false}
 use mathlib.Core.List.{List, [], _∷_, _++_, append-assoc, append-nil}
 use mathlib.Core.Path.{_≡_, refl, sym, _∙_, ap, ap₂}
 use lib.Dec.{eqb}
-use borrow.Author.Tests.{leb-false, ltb-true, ltb-false}
+use borrow.Author.Tests.{leb-false, ltb-false}
 use Rattle.rules.specs.Numbers.{keys, B, FJ, FL}
 use Rattle.rules.specs.Pairs.{Lent, is-pair, GN, alone}
 use Rattle.rules.specs.States.{lag, deadline}

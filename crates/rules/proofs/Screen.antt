@@ -6,6 +6,7 @@ use mathlib.Core.Path.{_≡_, refl, sym, _∙_, ap}
 use lib.Dec.{eqb}
 use lib.ListN.{length}
 use borrow.Author.Tests.{eqb-true}
+use Rattle.rules.specs.Pairs.{Lent}
 use Rattle.rules.specs.OneEvent.{one-event}
 use Rattle.rules.specs.ZeroDelay.{sign-of, signs, shown, Sending, backspace, sign, send, take-back, sent}
 use Rattle.rules.specs.GivenBack.{acts-as, Answer, step}
@@ -75,27 +76,27 @@ signs-append (i ∷ a) b =
 abbrev Shows : List ℕ → Machine → Answer → Type 0
 Shows l m r = typed (l ++ shown (m .resting)) (r .sendings) ≡ (l ++ signs (r .items)) ++ shown (r .machine .resting)
 
-step-shows : (l : List ℕ) (m : Machine) (e : Event) → Shows l m (step m e)
-step-shows l m e =
-    step-cases (Shows l m) m e
+step-shows : (g : Lent) (l : List ℕ) (m : Machine) (e : Event) → Shows l m (step g m e)
+step-shows g l m e =
+    step-cases (Shows l m) g m e
     (λ n _. ap (λ (k : List ℕ). k ++ shown (m .resting)) (sym (append-nil l)))
     (λ i _.
-    let d = one-event (m .settings) (e .stamp) (m .resting) (acts-as (m .held) i) in
+    let d = one-event g (m .settings) (e .stamp) (m .resting) (acts-as (m .held) i) in
     typed-sent l (shown (m .resting)) (signs (d .items) ++ shown (d .resting))
     ∙ sym (append-assoc l (signs (d .items)) (shown (d .resting))))
 
-pub run-shows : (l : List ℕ) (m : Machine) (es : List Event)
-    → typed (l ++ shown (m .resting)) (along sendings-in m es) ≡ (l ++ signs (along items-in m es)) ++ shown (after m es .resting)
-run-shows l m [] = ap (λ (k : List ℕ). k ++ shown (m .resting)) (sym (append-nil l))
-run-shows l m (e ∷ es) =
-    let n = step m e .machine in
-    let new = signs (step m e .items) in
-    let more = signs (along items-in n es) in
-    typed-append (l ++ shown (m .resting)) (step m e .sendings) (along sendings-in n es)
-    ∙ ap (λ (k : List ℕ). typed k (along sendings-in n es)) (step-shows l m e)
-    ∙ run-shows (l ++ new) n es
-    ∙ ap (λ (k : List ℕ). k ++ shown (after n es .resting))
-    (append-assoc l new more ∙ ap (λ (k : List ℕ). l ++ k) (sym (signs-append (step m e .items) (along items-in n es))))
+pub run-shows : (g : Lent) (l : List ℕ) (m : Machine) (es : List Event)
+    → typed (l ++ shown (m .resting)) (along g sendings-in m es) ≡ (l ++ signs (along g items-in m es)) ++ shown (after g m es .resting)
+run-shows g l m [] = ap (λ (k : List ℕ). k ++ shown (m .resting)) (sym (append-nil l))
+run-shows g l m (e ∷ es) =
+    let n = step g m e .machine in
+    let new = signs (step g m e .items) in
+    let more = signs (along g items-in n es) in
+    typed-append (l ++ shown (m .resting)) (step g m e .sendings) (along g sendings-in n es)
+    ∙ ap (λ (k : List ℕ). typed k (along g sendings-in n es)) (step-shows g l m e)
+    ∙ run-shows g (l ++ new) n es
+    ∙ ap (λ (k : List ℕ). k ++ shown (after g n es .resting))
+    (append-assoc l new more ∙ ap (λ (k : List ℕ). l ++ k) (sym (signs-append (step g m e .items) (along g items-in n es))))
 
 -- Sentence 5.
 
@@ -150,9 +151,9 @@ sent-harmless l (c ∷ p) (d ∷ q) before behind e =
     (λ _ f. taken-back l (c ∷ p) (c ∷ p) (d ∷ q) before behind (omega arith) f)
     e
 
-pub step-harmless : (l : List ℕ) (m : Machine) (e : Event) (before behind : List Sending)
-    → step m e .sendings ≡ before ++ (backspace ∷ behind) → Harmless l (shown (m .resting)) before
-step-harmless l m e before behind =
-    step-cases (λ (r : Answer). r .sendings ≡ before ++ (backspace ∷ behind) → Harmless l (shown (m .resting)) before) m e
+pub step-harmless : (g : Lent) (l : List ℕ) (m : Machine) (e : Event) (before behind : List Sending)
+    → step g m e .sendings ≡ before ++ (backspace ∷ behind) → Harmless l (shown (m .resting)) before
+step-harmless g l m e before behind =
+    step-cases (λ (r : Answer). r .sendings ≡ before ++ (backspace ∷ behind) → Harmless l (shown (m .resting)) before) g m e
     (λ n _ f. absurd (no-backspace-sent [] before behind f))
     (λ i _ f. sent-harmless l (shown (m .resting)) _ before behind f)

@@ -1,6 +1,6 @@
 -- What document 01 says of a step besides its rules: it commits 0 to 2, and sends at most 4; and 9/12 of late lines that follow one
 -- another: none ever does. And 01's three cases of what is sent, of which `sent` is the form for any number of shown signs. The
--- proofs are in proofs/StepFacts.antt.
+-- proofs are in proofs/StepFacts.antt; of StaysFormed in Formed.antt, of LateOnce in Late.antt there.
 use Prim.Native.Nat.{ℕ, suc, _≤_}
 use mathlib.Core.Bool.{false}
 use mathlib.Core.List.{List, [], _∷_, _++_}
@@ -39,8 +39,8 @@ abbrev pub NoneIs0 : List ℕ → Type 0
 NoneIs0 [] = Unit {0}
 NoneIs0 (c ∷ q) = (c ≢ 0) × NoneIs0 q
 
--- What a step sends is some backspaces, two at most, and then signs whose words are not 0, three at most, and at most four of both. So
--- it has room in a count and three words.
+-- What a step sends is some backspaces, two at most, and then signs whose words are not 0, three at most (four of both at most, says
+-- StepSizes). So it has room in a count and three words.
 pub record Sendable (sendings : List Sending) : Type 0 where
   pub backspaces : ℕ
   pub signs : List ℕ
