@@ -1,6 +1,6 @@
 -- Document 01, "Keystrokes to try": the examples P1 to P11 as one table (P8 as 1/12 of document 02 has it), the numbers that
--- 01 works out as another; distances of 3/12, the slow hands of 4/12 and the held keys of 7/12 as three more. The proofs are in
--- proofs/Examples.antt.
+-- 01 works out as another; distances of 3/12, the slow hands of 4/12, the held keys of 7/12 and the pairs of 9/12 as more. The proofs
+-- are in proofs/Examples.antt.
 use Prim.Native.Nat.{ℕ, _+_, _^_}
 use Prim.Native.Char.{code}
 use Prim.Native.String.{String}
@@ -10,7 +10,8 @@ use mathlib.Core.Path.{_≡_}
 use lib.IntN.{pos, negsuc}
 use Rattle.rules.specs.Numbers.{largest-stamp, settings-of, A, B, D, W, FJ}
 use Rattle.rules.specs.LayoutFacts.{key}
-use Rattle.rules.specs.Pairs.{Lent, no-pairs}
+use Rattle.rules.specs.Pairs.{Pair, Lent, no-pairs, P, longest}
+use Rattle.rules.specs.PairFacts.{pair}
 use Rattle.rules.specs.States.{at}
 use Rattle.rules.specs.ZeroDelay.{Sending, backspace, sign}
 use Rattle.rules.specs.GivenBack.{Answer, step}
@@ -20,11 +21,11 @@ use Rattle.rules.specs.declared.Thumb.{Thumb}
 use Rattle.rules.specs.declared.Thumb.the-variants.{Left, Right}
 use Rattle.rules.specs.declared.Settings.{Settings}
 use Rattle.rules.specs.declared.Resting.{Resting}
-use Rattle.rules.specs.declared.Resting.the-variants.{S1, S2, S3, S4, S6}
+use Rattle.rules.specs.declared.Resting.the-variants.{S1, S2, S3, S4, S6, S7, S8}
 use Rattle.rules.specs.declared.Machine.{Machine}
 use Rattle.rules.specs.declared.Face.the-variants.{Plain, With}
 use Rattle.rules.specs.declared.Item.{Item}
-use Rattle.rules.specs.declared.Item.the-variants.{Character, Mark}
+use Rattle.rules.specs.declared.Item.the-variants.{Character, Mark, Together}
 use Rattle.rules.specs.declared.Event.{Event}
 
 -- key 21 is か, え, が; 24 is さ, れ, ざ
@@ -121,6 +122,9 @@ slow = settings-of 1000 50 50 0
 abbrev pub nothing : Line
 nothing = text []
 
+abbrev pub function : ℕ → Line
+function n = arrives 5 0 n
+
 abbrev pub examples : List Example
 examples =
     example "P1" usual (down 21 0 ∷ tick 99 ∷ nothing ∷ tick 100 ∷ text (か ∷ []) ∷ []) ∷
@@ -205,6 +209,125 @@ distances =
     (down 21 50 ∷ asked 49 (refused 5) ∷ asked 50 (to-wait 100) ∷ asked (largest-stamp + 1) (refused 4) ∷ []) ∷
     example "refused as a state" (settings-of 49 50 50 0) (asked 0 (refused 2) ∷ asked (largest-stamp + 1) (refused 2) ∷ []) ∷ []
 
+-- 9/12. Keys 21 and 24 together give ヴ, 24 and 18 ヷ; 19 and 0 are in no pair. T_s=100, N=50 unless said.
+abbrev pub lent-with : List Pair → ℕ → ℕ → Lent
+lent-with l t n = record { pairs = l; t-s = t; n = n }
+
+abbrev pub two-pairs : List Pair
+two-pairs = pair 21 24 (code "ヴ") ∷ pair 24 18 (code "ヷ") ∷ []
+
+abbrev pub ヴ : Item
+ヴ = Together (key 21) (key 24) (code "ヴ")
+
+-- the same, with 24 pressed first
+abbrev pub ヴ-turned : Item
+ヴ-turned = Together (key 24) (key 21) (code "ヴ")
+
+abbrev pub い : Item
+い = Character (key 18) Plain
+
+abbrev pub stop : Item
+stop = Character (key 0) Plain
+
+abbrev pub with-pairs : String → List Line → Example
+with-pairs n l = with-list n (lent-with two-pairs 100 50) usual l
+
+-- 21@0, 24@30, and what comes then: a is 30
+abbrev pub in-S7 : String → List Line → Example
+in-S7 n l = with-pairs n (down 21 0 ∷ down 24 30 ∷ l)
+
+-- with 21 up@59: b was 29, and the deadline is 88
+abbrev pub in-S8 : String → List Line → Example
+in-S8 n l = in-S7 n (up 21 59 ∷ l)
+
+abbrev pub rests-S7 : ℕ → ℕ → ℕ → ℕ → Line
+rests-S7 M m K k = rests (S7 (key M) (at m) (key K) (at k))
+
+abbrev pub rests-S8 : ℕ → ℕ → ℕ → ℕ → ℕ → Line
+rests-S8 M m K k r = rests (S8 (key M) (at m) (key K) (at k) (at r))
+
+-- two shown letters give way to the pair's character, and c is shown behind it
+abbrev pub sent-ヴ : List Sending → Line
+sent-ヴ more = sent (backspace ∷ backspace ∷ sign (code "ヴ") ∷ more)
+
+-- Two letters wait: S7, line by line.
+abbrev pub two-wait : List Example
+two-wait =
+    in-S7 "late" (sent (sign (code "さ") ∷ []) ∷ asked 30 (to-wait 100) ∷ asked 131 one-late ∷ tick 129 ∷ nothing ∷ rests-S7 21 0 24 30 ∷
+    tick 130 ∷ text (ヴ ∷ []) ∷ sent-ヴ [] ∷ rests S1 ∷ []) ∷
+    with-pairs "either order" (down 24 0 ∷ down 21 30 ∷ tick 130 ∷ text (ヴ-turned ∷ []) ∷ sent-ヴ [] ∷ []) ∷
+    with-pairs "no pair" (down 21 0 ∷ down 18 30 ∷ text (か ∷ []) ∷ sent (sign (code "い") ∷ []) ∷ rests (S2 (key 18) (at 30)) ∷ []) ∷
+    with-pairs "equal stamps" (down 21 0 ∷ down 24 0 ∷ rests-S7 21 0 24 0 ∷ down 18 0 ∷ text (か ∷ []) ∷ rests-S7 24 0 18 0 ∷ []) ∷
+    in-S7 "a third letter, further off"
+    (down 18 61 ∷ text (ヴ ∷ []) ∷ sent-ヴ (sign (code "い") ∷ []) ∷ rests (S2 (key 18) (at 61)) ∷ []) ∷
+    in-S7 "a third letter, equal gaps, a pair with the second"
+    (down 18 60 ∷ text (か ∷ []) ∷ sent (sign (code "い") ∷ []) ∷ rests-S7 24 30 18 60 ∷ []) ∷
+    in-S7 "a third letter, equal gaps, no pair with the second"
+    (down 19 60 ∷ text (か ∷ さ ∷ []) ∷ sent (sign (code "ん") ∷ []) ∷ rests (S2 (key 19) (at 60)) ∷ []) ∷
+    in-S7 "a thumb, further off" (thumb Right 61 ∷ text (ヴ ∷ []) ∷ sent-ヴ [] ∷ rests (S3 Right (at 61)) ∷ []) ∷
+    in-S7 "a thumb, equal gaps"
+    (thumb Right 60 ∷ text (か ∷ []) ∷ sent [] ∷ rests (S4 (key 24) (at 30) Right (at 60)) ∷ tick 90 ∷ text (か ∷ ざ ∷ []) ∷ []) ∷
+    in-S7 "M up, a short overlap" (up 21 59 ∷ nothing ∷ sent [] ∷ rests-S8 21 0 24 30 59 ∷ []) ∷
+    in-S7 "M up, no short overlap" (up 21 60 ∷ text (ヴ ∷ []) ∷ sent-ヴ [] ∷ rests S1 ∷ []) ∷
+    in-S7 "M up, T_s long" (up 21 130 ∷ text (ヴ ∷ []) ∷ rests S1 ∷ []) ∷
+    in-S7 "K up" (up 24 31 ∷ text (ヴ ∷ []) ∷ sent-ヴ [] ∷ rests S1 ∷ []) ∷
+    in-S7 "a function key" (function 31 ∷ text (ヴ ∷ []) ∷ sent-ヴ [] ∷ rests S1 ∷ []) ∷
+    in-S7 "a tick, a thumb up, repeats"
+    (tick 31 ∷ thumb-up Right 32 ∷ down 21 33 ∷ down 24 34 ∷ up 19 35 ∷ answered 0 ∷ nothing ∷ rests-S7 21 0 24 30 ∷ []) ∷
+    with-pairs "another key up" (down 0 0 ∷ down 21 10 ∷ down 24 40 ∷ up 0 41 ∷ text (stop ∷ []) ∷ rests-S7 21 10 24 40 ∷ []) ∷ []
+
+-- M is up and two letters wait: S8, line by line.
+abbrev pub one-is-up : List Example
+one-is-up =
+    in-S8 "late" (asked 59 (to-wait 29) ∷ asked 89 one-late ∷ tick 87 ∷ nothing ∷ tick 88 ∷ text (か ∷ さ ∷ []) ∷ sent [] ∷ rests S1 ∷ []) ∷
+    in-S8 "a third letter, further off"
+    (down 18 61 ∷ text (ヴ ∷ []) ∷ sent-ヴ (sign (code "い") ∷ []) ∷ rests (S2 (key 18) (at 61)) ∷ []) ∷
+    in-S8 "a third letter, equal gaps, a pair with the second"
+    (down 18 60 ∷ text (か ∷ []) ∷ sent (sign (code "い") ∷ []) ∷ rests-S7 24 30 18 60 ∷ []) ∷
+    in-S8 "a third letter, equal gaps, no pair with the second"
+    (down 19 60 ∷ text (か ∷ さ ∷ []) ∷ sent (sign (code "ん") ∷ []) ∷ rests (S2 (key 19) (at 60)) ∷ []) ∷
+    in-S8 "M again, further off" (down 21 61 ∷ text (ヴ ∷ []) ∷ sent-ヴ (sign (code "か") ∷ []) ∷ rests (S2 (key 21) (at 61)) ∷ []) ∷
+    in-S8 "M again, equal gaps" (down 21 60 ∷ text (か ∷ []) ∷ sent (sign (code "か") ∷ []) ∷ rests-S7 24 30 21 60 ∷ []) ∷
+    in-S8 "a thumb, further off" (thumb Left 61 ∷ text (ヴ ∷ []) ∷ sent-ヴ [] ∷ rests (S3 Left (at 61)) ∷ []) ∷
+    in-S8 "a thumb, equal gaps" (thumb Left 60 ∷ text (か ∷ []) ∷ sent [] ∷ rests (S4 (key 24) (at 30) Left (at 60)) ∷ []) ∷
+    in-S8 "K up" (up 24 87 ∷ text (ヴ ∷ []) ∷ sent-ヴ [] ∷ rests S1 ∷ []) ∷
+    with-list "K up, L=60" (lent-with two-pairs 100 50) with-L-60
+    (down 21 0 ∷ down 24 30 ∷ up 21 59 ∷ up 24 78 ∷ text (ヴ ∷ []) ∷ sent-ヴ [] ∷ rests S1 ∷ []) ∷
+    with-list "K up, L=60, short of it" (lent-with two-pairs 100 50) with-L-60
+    (down 21 0 ∷ down 24 30 ∷ up 21 59 ∷ up 24 79 ∷ text (か ∷ さ ∷ []) ∷ sent [] ∷ rests S1 ∷ []) ∷
+    in-S8 "a function key" (function 60 ∷ text (ヴ ∷ []) ∷ sent-ヴ [] ∷ rests S1 ∷ []) ∷
+    in-S8 "a tick, a thumb up, a repeat, M up once more"
+    (tick 60 ∷ thumb-up Right 61 ∷ down 24 62 ∷ up 21 63 ∷ answered 0 ∷ nothing ∷ rests-S8 21 0 24 30 59 ∷ []) ∷
+    with-pairs "another key up"
+    (down 0 0 ∷ down 21 10 ∷ down 24 40 ∷ up 21 69 ∷ up 0 70 ∷ text (stop ∷ []) ∷ rests-S8 21 10 24 40 69 ∷ []) ∷ []
+
+-- How long a letter waits, and what the list, T_s and N decide.
+abbrev pub lent-decides : List Example
+lent-decides =
+    -- P=200: a key in some pair waits the larger of A and P, one in no pair A
+    with-list "P above A" (lent-with two-pairs 200 50) usual
+    (down 18 0 ∷ asked 0 (to-wait 200) ∷ tick 199 ∷ nothing ∷ tick 200 ∷ text (い ∷ []) ∷ []) ∷
+    with-list "in no pair" (lent-with two-pairs 200 50) usual (down 0 0 ∷ asked 0 (to-wait 100) ∷ tick 100 ∷ text (stop ∷ []) ∷ []) ∷
+    with-list "A above P" (lent-with two-pairs 50 50) usual (down 21 0 ∷ asked 0 (to-wait 100) ∷ []) ∷
+    -- N=60: P is 100·40/60, and S8's wait 44·40/60, both rounded up
+    with-list "rounded up" (lent-with two-pairs 100 60) (settings-of 50 50 50 0)
+    (down 21 0 ∷ asked 0 (to-wait 67) ∷ down 24 30 ∷ up 21 74 ∷ rests-S8 21 0 24 30 74 ∷ asked 74 (to-wait 30) ∷ []) ∷
+    with-list "by N" (lent-with two-pairs 100 60) usual (down 21 0 ∷ down 24 30 ∷ up 21 75 ∷ text (ヴ ∷ []) ∷ rests S1 ∷ []) ∷
+    -- a pair's character that is shown already stays
+    with-list "か for か, さ" (lent-with (pair 21 24 (code "か") ∷ []) 100 50) usual
+    (down 21 0 ∷ down 24 30 ∷ up 24 31 ∷ text (Together (key 21) (key 24) (code "か") ∷ []) ∷ sent (backspace ∷ []) ∷ []) ∷
+    with-list "さ for か, さ" (lent-with (pair 21 24 (code "さ") ∷ []) 100 50) usual
+    (down 21 0 ∷ down 24 30 ∷ up 24 31 ∷ sent (backspace ∷ backspace ∷ sign (code "さ") ∷ []) ∷ []) ∷
+    -- 12 before 2, 3, 4 and 5, with no pairs too
+    with-list "12 before 2" (lent-with (pair 21 21 (code "ヴ") ∷ []) 100 50) (settings-of 49 50 50 0)
+    (asked 0 (refused 12) ∷ down 21 0 ∷ answered 12 ∷ down 31 (largest-stamp + 1) ∷ answered 12 ∷ nothing ∷ rests S1 ∷ []) ∷
+    with-list "12 with no pairs" (lent-with [] 49 50) usual (asked (largest-stamp + 1) (refused 12) ∷ down 31 0 ∷ answered 12 ∷ []) ∷
+    -- the longest waits come near to these (the numbers stand below)
+    with-list "145 of 150" (lent-with two-pairs 50 50) (settings-of 50 50 50 0)
+    (down 21 0 ∷ down 24 49 ∷ up 21 97 ∷ asked 97 (to-wait 48) ∷ tick 144 ∷ nothing ∷ tick 145 ∷ text (か ∷ さ ∷ []) ∷ []) ∷
+    with-list "217 of 220" (lent-with two-pairs 60 50) usual
+    (down 21 0 ∷ down 24 99 ∷ up 21 158 ∷ asked 158 (to-wait 59) ∷ tick 216 ∷ nothing ∷ tick 217 ∷ text (か ∷ さ ∷ []) ∷ []) ∷ []
+
 -- The lines as the rules have them: each thing that 01 says is replaced by what there is. es are the events so far, from a
 -- fresh state; n is the number that the last of them gave back, q what it sent.
 abbrev pub observed-lines : Lent → Settings → List Event → ℕ → List Sending → List Line → List Line
@@ -233,6 +356,15 @@ SlowHandsHold = map observed slow-hands ≡ slow-hands
 abbrev pub HeldDownHold : Type 0
 HeldDownHold = map observed held-down ≡ held-down
 
+abbrev pub TwoWaitHold : Type 0
+TwoWaitHold = map observed two-wait ≡ two-wait
+
+abbrev pub OneIsUpHold : Type 0
+OneIsUpHold = map observed one-is-up ≡ one-is-up
+
+abbrev pub LentDecidesHold : Type 0
+LentDecidesHold = map observed lent-decides ≡ lent-decides
+
 -- A machine made by hand, that no sequence leaves: key 21 waits since a stamp, whether it is held or not.
 abbrev pub waits-21 : ℕ → ℕ → ℕ → Machine
 waits-21 since last held = record { settings = usual; resting = S2 (key 21) (at since); last = at last; held = held }
@@ -248,6 +380,16 @@ pub record ByHandHold : Type 0 where
   pub down-refused : step no-pairs (waits-21 0 0 63) (an-event 1 21 50) ≡ gives 11 [] [] (waits-21 0 0 63)
   pub repeat-accepted : step no-pairs (waits-21 0 0 (31 + 2 ^ 21)) (an-event 1 21 50) ≡ gives 0 [] [] (waits-21 0 50 (31 + 2 ^ 21))
 
+-- 9/12 at a machine that rests in S7 with 21 and 24: with a list in which they are a pair it goes on, with another one it is not well
+-- formed.
+abbrev pub waits-21-24 : ℕ → Machine
+waits-21-24 last = record { settings = usual; resting = S7 (key 21) (at 0) (key 24) (at 30); last = at last; held = 0 }
+
+pub record OtherListHold : Type 0 where
+  pub its-list : step (lent-with two-pairs 100 50) (waits-21-24 30) (an-event 6 0 40) ≡ gives 0 [] [] (waits-21-24 40)
+  pub other-list : step (lent-with (pair 21 18 (code "ヴ") ∷ []) 100 50) (waits-21-24 30) (an-event 6 0 40) ≡ gives 2 [] [] (waits-21-24 30)
+  pub no-list : step no-pairs (waits-21-24 30) (an-event 6 0 40) ≡ gives 2 [] [] (waits-21-24 30)
+
 abbrev pub DistancesHold : Type 0
 DistancesHold = map observed distances ≡ distances
 
@@ -259,13 +401,20 @@ pub data Number : Type 0 where
   W-is : ℕ → Number
   -- FJ of a lag
   FJ-is : ℕ → ℕ → Number
+  -- with pairs (9/12)
+  P-is : ℕ → Number
+  longest-is : ℕ → Number
 
 pub record Worked : Type 0 where
+  pub lent : Lent
   pub settings : Settings
   pub numbers : List Number
 
+abbrev pub worked-with : Lent → Settings → List Number → Worked
+worked-with g s n = record { lent = g; settings = s; numbers = n }
+
 abbrev pub worked : Settings → List Number → Worked
-worked s n = record { settings = s; numbers = n }
+worked s n = worked-with no-pairs s n
 
 -- Where 01 leaves L open it is 50.
 abbrev pub numbers : List Worked
@@ -274,17 +423,26 @@ numbers =
     worked with-J-70 (FJ-is 10 24 ∷ []) ∷
     worked usual (W-is 200 ∷ []) ∷
     worked slow (W-is 2_000 ∷ []) ∷
-    worked (settings-of 200 99 99 0) (A-is 3 ∷ B-is 3 ∷ D-is 297 ∷ W-is 29_700 ∷ []) ∷ []
+    worked (settings-of 200 99 99 0) (A-is 3 ∷ B-is 3 ∷ D-is 297 ∷ W-is 29_700 ∷ []) ∷
+    -- the longest wait with pairs, where T_s + P is the largest of the three; where FJ is; and without pairs, whatever T_s and N
+    worked-with (lent-with two-pairs 50 50) (settings-of 50 50 50 0) (P-is 50 ∷ longest-is 150 ∷ []) ∷
+    worked-with (lent-with two-pairs 60 50) usual (P-is 60 ∷ longest-is 220 ∷ []) ∷
+    worked-with (lent-with two-pairs 1_000 99) usual (P-is 11 ∷ longest-is 1_111 ∷ []) ∷
+    worked-with (lent-with two-pairs 1_000 1) usual (P-is 99_000 ∷ longest-is 199_000 ∷ []) ∷
+    worked-with (lent-with two-pairs 50 50) (settings-of 200 99 99 0) (W-is 29_700 ∷ longest-is 29_700 ∷ []) ∷
+    worked-with (lent-with [] 1_000 1) usual (P-is 99_000 ∷ longest-is 200 ∷ []) ∷ []
 
-abbrev pub computed-number : Settings → Number → Number
-computed-number s (A-is n) = A-is (A s)
-computed-number s (B-is n) = B-is (B s)
-computed-number s (D-is n) = D-is (D s)
-computed-number s (W-is n) = W-is (W s)
-computed-number s (FJ-is x n) = FJ-is x (FJ s x)
+abbrev pub computed-number : Lent → Settings → Number → Number
+computed-number g s (A-is n) = A-is (A s)
+computed-number g s (B-is n) = B-is (B s)
+computed-number g s (D-is n) = D-is (D s)
+computed-number g s (W-is n) = W-is (W s)
+computed-number g s (FJ-is x n) = FJ-is x (FJ s x)
+computed-number g s (P-is n) = P-is (P g)
+computed-number g s (longest-is n) = longest-is (longest g s)
 
 abbrev pub computed : Worked → Worked
-computed w = worked (w .settings) (map (computed-number (w .settings)) (w .numbers))
+computed w = worked-with (w .lent) (w .settings) (map (computed-number (w .lent) (w .settings)) (w .numbers))
 
 -- The numbers hold: what the definitions give is what the table says.
 abbrev pub NumbersHold : Type 0
