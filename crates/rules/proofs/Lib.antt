@@ -6,8 +6,10 @@ pub mod Refusals
 pub mod Examples
 pub mod Steps
 pub mod Late
+pub mod Before
 pub mod StepFacts
 pub mod Bounds
+pub mod Longest
 pub mod Kept
 pub mod StillHeld
 pub mod Presses
