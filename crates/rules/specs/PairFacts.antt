@@ -1,14 +1,17 @@
 -- What holds of the lists of Pairs.antt, and lists to try: those that are accepted, and those that each condition refuses. The
--- proofs are in proofs/Pairs.antt.
+-- proofs are in proofs/Pairs.antt, that of the longest wait in proofs/Longest.antt.
 use Prim.Native.Nat.{ℕ, zero, suc, _≤_}
 use mathlib.Core.Bool.{Bool, true, false}
 use mathlib.Core.List.{List, [], _∷_, _++_, map}
+use mathlib.Core.Logic.{_≢_}
 use mathlib.Core.Option.{some}
 use mathlib.Core.Path.{_≡_}
 use lib.ListN.{take}
+use Rattle.rules.specs.Numbers.{in-range, W}
 use Rattle.rules.specs.LayoutFacts.{key}
-use Rattle.rules.specs.Pairs.{Pair, Lent, T-s-least, T-s-most, N-least, N-most, is-of, pair-of, is-pair, in-some-pair, none-twice, is-pair-character, each-good, lent-good}
+use Rattle.rules.specs.Pairs.{Pair, Lent, T-s-least, T-s-most, N-least, N-most, is-of, pair-of, is-pair, in-some-pair, none-twice, is-pair-character, each-good, lent-good, W-pairs, longest}
 use Rattle.rules.specs.declared.Key.{Key}
+use Rattle.rules.specs.declared.Settings.{Settings}
 
 -- a pair with its keys the other way round
 abbrev pub turned : Pair → Pair
@@ -40,6 +43,19 @@ pub record PairFacts (l : List Pair) (a b : Key) : Type 0 where
 abbrev pub NoPairsGood : ℕ → ℕ → Type 0
 NoPairsGood t n =
     T-s-least ≤ t → t ≤ T-s-most → N-least ≤ n → n ≤ N-most → lent-good (record { pairs = []; t-s = t; n = n }) ≡ true
+
+-- The longest wait, of everything lent and settings in range.
+pub record LongestWait (g : Lent) (s : Settings) : Type 0 where
+  pub without-pairs : g .pairs ≡ [] → longest g s ≡ W s
+  pub with-pairs : g .pairs ≢ [] → longest g s ≡ W-pairs g s
+  -- pairs make it no shorter
+  pub no-shorter : W s ≤ longest g s
+  -- it is made from T, J, L, T_s and N alone
+  pub from-numbers : (h : Lent) (u : Settings) → h .t-s ≡ g .t-s → h .n ≡ g .n → u .t ≡ s .t → u .j ≡ s .j → u .l ≡ s .l
+      → W-pairs h u ≡ W-pairs g s
+
+abbrev pub Longest-wait : Type 0
+Longest-wait = (g : Lent) (s : Settings) → in-range s ≡ true → LongestWait g s
 
 -- two keys and their character
 abbrev pub pair : ℕ → ℕ → ℕ → Pair
