@@ -9,6 +9,7 @@ use lib.Dec.{eqb}
 use borrow.Author.Tests.{leb-true, le-leb, eq-eqb}
 use Rattle.rules.specs.Choice.{if_then_else_}
 use Rattle.rules.specs.Numbers.{within}
+use Rattle.rules.specs.Pairs.{Lent}
 use Rattle.rules.specs.States.{deadline}
 use Rattle.rules.specs.OneEvent.{Done, _leaving_, nothing, late, act, due-by, settle, and-then, one-event}
 use Rattle.rules.specs.GivenBack.{input, acts-as, held-after, Answer, step}
@@ -17,7 +18,7 @@ use Rattle.rules.specs.Demand3.{tick, with-event}
 use Rattle.rules.specs.declared.Stamp.{Stamp}
 use Rattle.rules.specs.declared.Settings.{Settings}
 use Rattle.rules.specs.declared.Resting.{Resting}
-use Rattle.rules.specs.declared.Resting.the-variants.{S1, S2, S3, S4, S5, S6}
+use Rattle.rules.specs.declared.Resting.the-variants.{S1, S2, S3, S4, S5, S6, S7, S8}
 use Rattle.rules.specs.declared.Machine.{Machine}
 use Rattle.rules.specs.declared.Item.{Item}
 use Rattle.rules.specs.declared.Event.{Event}
@@ -25,47 +26,44 @@ use Rattle.rules.specs.declared.Input.{Input}
 use Rattle.rules.specs.declared.Input.the-variants.{CharacterDown, CharacterUp, ThumbDown, ThumbUp, FunctionDown, Tick}
 use Rattle.rules.proofs.Choices.{by-test}
 use Rattle.rules.proofs.Steps.{is-key-input, Accepted, taken, step-cases}
-use Rattle.rules.proofs.StepFacts.{late-leaves-S1}
+use Rattle.rules.proofs.Late.{late-leaves-S1, settle-once}
 
 -- items in front of what is done
 abbrev pub after-items : List Item → Done → Done
 after-items l d = (l ++ d .items) leaving (d .resting)
 
-and-then-assoc : (d : Done) (f g : Resting → Done) → and-then (and-then d f) g ≡ and-then d (λ y. and-then (f y) g)
-and-then-assoc d f g =
+and-then-assoc : (d : Done) (f h : Resting → Done) → and-then (and-then d f) h ≡ and-then d (λ y. and-then (f y) h)
+and-then-assoc d f h =
     let e = f (d .resting) in
-    ap (λ (l : List Item). l leaving (g (e .resting) .resting)) (append-assoc (d .items) (e .items) (g (e .resting) .items))
+    ap (λ (l : List Item). l leaving (h (e .resting) .resting)) (append-assoc (d .items) (e .items) (h (e .resting) .items))
 
 -- Settling.
 
 -- a late line leaves a state that is never due
-late-is-settled : (s : Settings) (now : Stamp) (y : Resting) → settle s now (late s y .resting) ≡ (nothing leaving (late s y .resting))
-unfolding settle
-late-is-settled s now y = rw (late-leaves-S1 s y)
+late-is-settled : (g : Lent) (s : Settings) (now : Stamp) (y : Resting) → settle g s now (late g s y .resting) ≡ (nothing leaving (late g s y .resting))
+late-is-settled g s now y = settle-once g s now (late g s y .resting) ∙ rw (late-leaves-S1 g s y)
 
 due-later : (u v : Stamp) → u .0 ≤ v .0 → (d : Option Stamp) → due-by u d ≡ true → due-by v d ≡ true
 due-later u v le none h = h
 due-later u v le (some d) h = le-leb (d .0) (v .0) (le-trans (leb-true (d .0) (u .0) h) le)
 
-pub settle-due : (s : Settings) (now : Stamp) (y : Resting) → due-by now (deadline s y) ≡ true → settle s now y ≡ late s y
-unfolding settle
-settle-due s now y h = rw h
+pub settle-due : (g : Lent) (s : Settings) (now : Stamp) (y : Resting) → due-by now (deadline g s y) ≡ true → settle g s now y ≡ late g s y
+settle-due g s now y h = settle-once g s now y ∙ rw h
 
-pub settle-not-due : (s : Settings) (now : Stamp) (y : Resting) → due-by now (deadline s y) ≡ false → settle s now y ≡ (nothing leaving y)
-unfolding settle
-settle-not-due s now y h = rw h
+pub settle-not-due : (g : Lent) (s : Settings) (now : Stamp) (y : Resting) → due-by now (deadline g s y) ≡ false → settle g s now y ≡ (nothing leaving y)
+settle-not-due g s now y h = settle-once g s now y ∙ rw h
 
 -- to settle sooner changes nothing
-settle-sooner : (s : Settings) (u v : Stamp) → u .0 ≤ v .0 → (y : Resting) → and-then (settle s u y) (settle s v) ≡ settle s v y
-settle-sooner s u v le y = go (due-by u (deadline s y)) refl
+settle-sooner : (g : Lent) (s : Settings) (u v : Stamp) → u .0 ≤ v .0 → (y : Resting) → and-then (settle g s u y) (settle g s v) ≡ settle g s v y
+settle-sooner g s u v le y = go (due-by u (deadline g s y)) refl
   where
-    go : (t : Bool) → due-by u (deadline s y) ≡ t → and-then (settle s u y) (settle s v) ≡ settle s v y
+    go : (t : Bool) → due-by u (deadline g s y) ≡ t → and-then (settle g s u y) (settle g s v) ≡ settle g s v y
     go true h =
-        ap (λ (d : Done). and-then d (settle s v)) (settle-due s u y h)
-        ∙ ap (after-items (late s y .items)) (late-is-settled s v y)
-        ∙ ap (λ (l : List Item). l leaving (late s y .resting)) (append-nil (late s y .items))
-        ∙ sym (settle-due s v y (due-later u v le (deadline s y) h))
-    go false h = ap (λ (d : Done). and-then d (settle s v)) (settle-not-due s u y h)
+        ap (λ (d : Done). and-then d (settle g s v)) (settle-due g s u y h)
+        ∙ ap (after-items (late g s y .items)) (late-is-settled g s v y)
+        ∙ ap (λ (l : List Item). l leaving (late g s y .resting)) (append-nil (late g s y .items))
+        ∙ sym (settle-due g s v y (due-later u v le (deadline g s y) h))
+    go false h = ap (λ (d : Done). and-then d (settle g s v)) (settle-not-due g s u y h)
 
 -- Key events by themselves, up to a closing stamp t.
 
@@ -75,23 +73,23 @@ first-stamp [] t = t
 first-stamp (e ∷ ks) t = e .stamp
 
 -- what an event's input does, with the keys of h held, and the held set after it
-abbrev act-as : Settings → Stamp → ℕ → Resting → Option Input → Done
-act-as s now h y none = nothing leaving y
-act-as s now h y (some i) = act s now y (acts-as h i)
+abbrev act-as : Lent → Settings → Stamp → ℕ → Resting → Option Input → Done
+act-as g s now h y none = nothing leaving y
+act-as g s now h y (some i) = act g s now y (acts-as h i)
 
 abbrev held-by : ℕ → Option Input → ℕ
 held-by h none = h
 held-by h (some i) = held-after h (acts-as h i)
 
 -- from a state that is settled up to the first stamp
-abbrev onward : Settings → Stamp → ℕ → Resting → List Event → Done
-onward s t h y [] = nothing leaving y
-onward s t h y (e ∷ ks) =
-    and-then (act-as s (e .stamp) h y (input (e .kind) (e .key)))
-    (λ z. and-then (settle s (first-stamp ks t) z) (λ v. onward s t (held-by h (input (e .kind) (e .key))) v ks))
+abbrev onward : Lent → Settings → Stamp → ℕ → Resting → List Event → Done
+onward g s t h y [] = nothing leaving y
+onward g s t h y (e ∷ ks) =
+    and-then (act-as g s (e .stamp) h y (input (e .kind) (e .key)))
+    (λ z. and-then (settle g s (first-stamp ks t) z) (λ v. onward g s t (held-by h (input (e .kind) (e .key))) v ks))
 
-abbrev keyed : Settings → Stamp → ℕ → List Event → Resting → Done
-keyed s t h ks y = and-then (settle s (first-stamp ks t) y) (λ v. onward s t h v ks)
+abbrev keyed : Lent → Settings → Stamp → ℕ → List Event → Resting → Done
+keyed g s t h ks y = and-then (settle g s (first-stamp ks t) y) (λ v. onward g s t h v ks)
 
 -- the held set after them
 abbrev pub held-over : ℕ → List Event → ℕ
@@ -99,25 +97,27 @@ held-over h [] = h
 held-over h (e ∷ ks) = held-over (held-by h (input (e .kind) (e .key))) ks
 
 -- settling sooner changes nothing of it
-keyed-sooner : (s : Settings) (t u : Stamp) (h : ℕ) (ks : List Event) (y : Resting) → u .0 ≤ first-stamp ks t .0
-    → and-then (settle s u y) (keyed s t h ks) ≡ keyed s t h ks y
-keyed-sooner s t u h ks y le =
-    sym (and-then-assoc (settle s u y) (settle s (first-stamp ks t)) (λ v. onward s t h v ks))
-    ∙ ap (λ (d : Done). and-then d (λ v. onward s t h v ks)) (settle-sooner s u (first-stamp ks t) le y)
+keyed-sooner : (g : Lent) (s : Settings) (t u : Stamp) (h : ℕ) (ks : List Event) (y : Resting) → u .0 ≤ first-stamp ks t .0
+    → and-then (settle g s u y) (keyed g s t h ks) ≡ keyed g s t h ks y
+keyed-sooner g s t u h ks y le =
+    sym (and-then-assoc (settle g s u y) (settle g s (first-stamp ks t)) (λ v. onward g s t h v ks))
+    ∙ ap (λ (d : Done). and-then d (λ v. onward g s t h v ks)) (settle-sooner g s u (first-stamp ks t) le y)
 
-act-tick : (s : Settings) (now : Stamp) (y : Resting) → act s now y Tick ≡ (nothing leaving y)
-act-tick s now S1 = refl
-act-tick s now (S2 M m) = refl
-act-tick s now (S3 O o) = refl
-act-tick s now (S4 M m O o) = refl
-act-tick s now (S5 O o M m) = refl
-act-tick s now (S6 O o M m r) = refl
+act-tick : (g : Lent) (s : Settings) (now : Stamp) (y : Resting) → act g s now y Tick ≡ (nothing leaving y)
+act-tick g s now S1 = refl
+act-tick g s now (S2 M m) = refl
+act-tick g s now (S3 O o) = refl
+act-tick g s now (S4 M m O o) = refl
+act-tick g s now (S5 O o M m) = refl
+act-tick g s now (S6 O o M m r) = refl
+act-tick g s now (S7 M m K k) = refl
+act-tick g s now (S8 M m K k r) = refl
 
-pub one-tick : (s : Settings) (now : Stamp) (y : Resting) → one-event s now y Tick ≡ settle s now y
+pub one-tick : (g : Lent) (s : Settings) (now : Stamp) (y : Resting) → one-event g s now y Tick ≡ settle g s now y
 unfolding one-event
-one-tick s now y =
-    ap (after-items (settle s now y .items)) (act-tick s now (settle s now y .resting))
-    ∙ ap (λ (l : List Item). l leaving (settle s now y .resting)) (append-nil (settle s now y .items))
+one-tick g s now y =
+    ap (after-items (settle g s now y .items)) (act-tick g s now (settle g s now y .resting))
+    ∙ ap (λ (l : List Item). l leaving (settle g s now y .resting)) (append-nil (settle g s now y .items))
 
 only-tick : (i : Input) → is-key-input i ≡ false → i ≡ Tick
 only-tick (CharacterDown k) h = absurd (true≢false h)
@@ -136,101 +136,105 @@ pub not-0 : {Q : Type 0} (n : ℕ) → eqb n 0 ≡ false → n ≡ 0 → Q
 not-0 n z h = absurd (true≢false (sym (eq-eqb n 0 h) ∙ z))
 
 -- A sequence closed by a tick: its items and the state that it leaves.
-abbrev closed : Machine → List Event → Stamp → Done
-closed m es t = along items-in m (with-event es (tick t)) leaving (after m (with-event es (tick t)) .resting)
+abbrev closed : Lent → Machine → List Event → Stamp → Done
+closed g m es t = along g items-in m (with-event es (tick t)) leaving (after g m (with-event es (tick t)) .resting)
 
 -- no key event of a sequence, nor its closing tick, comes before the machine's last stamp
-starts-after : (m : Machine) (es : List Event) (t : Stamp) → step (after m es) (tick t) .number ≡ 0
-    → m .last .0 ≤ first-stamp (along key-event-in m es) t .0
-starts-after m [] t =
-    step-cases (λ (r : Answer). r .number ≡ 0 → m .last .0 ≤ t .0) m (tick t) (λ n z h. not-0 n z h) (λ i a _. a .not-before)
-starts-after m (e ∷ es) t =
+starts-after : (g : Lent) (m : Machine) (es : List Event) (t : Stamp) → step g (after g m es) (tick t) .number ≡ 0
+    → m .last .0 ≤ first-stamp (along g key-event-in m es) t .0
+starts-after g m [] t =
+    step-cases (λ (r : Answer). r .number ≡ 0 → m .last .0 ≤ t .0) g m (tick t) (λ n z h. not-0 n z h) (λ i a _. a .not-before)
+starts-after g m (e ∷ es) t =
     step-cases
     (λ (r : Answer).
-    step (after (r .machine) es) (tick t) .number ≡ 0
-    → m .last .0 ≤ first-stamp (key-event-in m e r ++ along key-event-in (r .machine) es) t .0)
+    step g (after g (r .machine) es) (tick t) .number ≡ 0
+    → m .last .0 ≤ first-stamp (key-event-in m e r ++ along g key-event-in (r .machine) es) t .0)
+    g
     m
     e
-    (λ n z h. rw z (starts-after m es t h))
+    (λ n z h. rw z (starts-after g m es t h))
     (λ i a h.
-    by-test (λ (l : List Event). m .last .0 ≤ first-stamp (l ++ along key-event-in (taken m e (acts-as (m .held) i) .machine) es) t .0)
+    by-test (λ (l : List Event). m .last .0 ≤ first-stamp (l ++ along g key-event-in (taken g m e (acts-as (m .held) i) .machine) es) t .0)
     (within 1 5 (e .kind))
     (λ _. a .not-before)
-    (λ _. le-trans (a .not-before) (starts-after _ es t h)))
+    (λ _. le-trans (a .not-before) (starts-after g _ es t h)))
 
 -- an accepted key event acts, and the rest follows
-key-event-first : (s : Settings) (t : Stamp) (h : ℕ) (e : Event) (i : Input) (ks : List Event) (y : Resting)
+key-event-first : (g : Lent) (s : Settings) (t : Stamp) (h : ℕ) (e : Event) (i : Input) (ks : List Event) (y : Resting)
     → input (e .kind) (e .key) ≡ some i
-    → and-then (one-event s (e .stamp) y (acts-as h i)) (keyed s t (held-after h (acts-as h i)) ks) ≡ keyed s t h (e ∷ ks) y
+    → and-then (one-event g s (e .stamp) y (acts-as h i)) (keyed g s t (held-after h (acts-as h i)) ks) ≡ keyed g s t h (e ∷ ks) y
 unfolding one-event
-key-event-first s t h e i ks y is =
-    and-then-assoc (settle s (e .stamp) y) (λ v. act s (e .stamp) v (acts-as h i)) (keyed s t (held-after h (acts-as h i)) ks)
-    ∙ ap (λ (o : Option Input). and-then (settle s (e .stamp) y) (λ v. and-then (act-as s (e .stamp) h v o) (keyed s t (held-by h o) ks)))
+key-event-first g s t h e i ks y is =
+    and-then-assoc (settle g s (e .stamp) y) (λ v. act g s (e .stamp) v (acts-as h i)) (keyed g s t (held-after h (acts-as h i)) ks)
+    ∙ ap (λ (o : Option Input). and-then (settle g s (e .stamp) y) (λ v. and-then (act-as g s (e .stamp) h v o) (keyed g s t (held-by h o) ks)))
     (sym is)
 
 -- What a sequence closed by an accepted tick does is what its key events do.
-pub closes : (m : Machine) (es : List Event) (t : Stamp) → step (after m es) (tick t) .number ≡ 0
-    → closed m es t ≡ keyed (m .settings) t (m .held) (along key-event-in m es) (m .resting)
-closes m [] t =
+pub closes : (g : Lent) (m : Machine) (es : List Event) (t : Stamp) → step g (after g m es) (tick t) .number ≡ 0
+    → closed g m es t ≡ keyed g (m .settings) t (m .held) (along g key-event-in m es) (m .resting)
+closes g m [] t =
     step-cases
-    (λ (r : Answer). r .number ≡ 0 → ((r .items ++ []) leaving (r .machine .resting)) ≡ keyed (m .settings) t (m .held) [] (m .resting))
+    (λ (r : Answer). r .number ≡ 0 → ((r .items ++ []) leaving (r .machine .resting)) ≡ keyed g (m .settings) t (m .held) [] (m .resting))
+    g
     m
     (tick t)
     (λ n z h. not-0 n z h)
     (λ i a _. ap (λ (d : Done). (d .items ++ []) leaving (d .resting))
-    (ap (λ (j : Input). one-event (m .settings) t (m .resting) (acts-as (m .held) j)) (tick-input t i (a .is-input))
-    ∙ one-tick (m .settings) t (m .resting)))
-closes m (e ∷ es) t =
+    (ap (λ (j : Input). one-event g (m .settings) t (m .resting) (acts-as (m .held) j)) (tick-input t i (a .is-input))
+    ∙ one-tick g (m .settings) t (m .resting)))
+closes g m (e ∷ es) t =
     step-cases
     (λ (r : Answer).
-    step (after (r .machine) es) (tick t) .number ≡ 0
-    → after-items (r .items) (closed (r .machine) es t)
-    ≡ keyed (m .settings) t (m .held) (key-event-in m e r ++ along key-event-in (r .machine) es) (m .resting))
+    step g (after g (r .machine) es) (tick t) .number ≡ 0
+    → after-items (r .items) (closed g (r .machine) es t)
+    ≡ keyed g (m .settings) t (m .held) (key-event-in m e r ++ along g key-event-in (r .machine) es) (m .resting))
+    g
     m
     e
-    (λ n z h. rw z (closes m es t h))
-    (λ i a h. accepted-closes i a (closes (next i) es t h) (starts-after (next i) es t h))
+    (λ n z h. rw z (closes g m es t h))
+    (λ i a h. accepted-closes i a (closes g (next i) es t h) (starts-after g (next i) es t h))
   where
     next : Input → Machine
-    next i = taken m e (acts-as (m .held) i) .machine
+    next i = taken g m e (acts-as (m .held) i) .machine
 
-    accepted-closes : (i : Input) → Accepted m e i
-        → closed (next i) es t ≡ keyed (m .settings) t (next i .held) (along key-event-in (next i) es) (next i .resting)
-        → e .stamp .0 ≤ first-stamp (along key-event-in (next i) es) t .0
-        → after-items (one-event (m .settings) (e .stamp) (m .resting) (acts-as (m .held) i) .items) (closed (next i) es t)
-        ≡ keyed (m .settings) t (m .held) ((if within 1 5 (e .kind) then (e ∷ []) else []) ++ along key-event-in (next i) es) (m .resting)
+    accepted-closes : (i : Input) → Accepted g m e i
+        → closed g (next i) es t ≡ keyed g (m .settings) t (next i .held) (along g key-event-in (next i) es) (next i .resting)
+        → e .stamp .0 ≤ first-stamp (along g key-event-in (next i) es) t .0
+        → after-items (one-event g (m .settings) (e .stamp) (m .resting) (acts-as (m .held) i) .items) (closed g (next i) es t)
+        ≡ keyed g (m .settings) t (m .held) ((if within 1 5 (e .kind) then (e ∷ []) else []) ++ along g key-event-in (next i) es) (m .resting)
     accepted-closes i a more le =
-        let d = one-event (m .settings) (e .stamp) (m .resting) (acts-as (m .held) i) in
-        let ks = along key-event-in (next i) es in
+        let d = one-event g (m .settings) (e .stamp) (m .resting) (acts-as (m .held) i) in
+        let ks = along g key-event-in (next i) es in
         ap (after-items (d .items)) more
         ∙ by-test
-        (λ (l : List Event). and-then d (keyed (m .settings) t (next i .held) ks) ≡ keyed (m .settings) t (m .held) (l ++ ks) (m .resting))
+        (λ (l : List Event). and-then d (keyed g (m .settings) t (next i .held) ks) ≡ keyed g (m .settings) t (m .held) (l ++ ks) (m .resting))
         (within 1 5 (e .kind))
-        (λ _. key-event-first (m .settings) t (m .held) e i ks (m .resting) (a .is-input))
+        (λ _. key-event-first g (m .settings) t (m .held) e i ks (m .resting) (a .is-input))
         (λ no-key.
-        ap (λ (j : Input). and-then (one-event (m .settings) (e .stamp) (m .resting) (acts-as (m .held) j))
-        (keyed (m .settings) t (held-after (m .held) (acts-as (m .held) j)) ks))
+        ap (λ (j : Input). and-then (one-event g (m .settings) (e .stamp) (m .resting) (acts-as (m .held) j))
+        (keyed g (m .settings) t (held-after (m .held) (acts-as (m .held) j)) ks))
         (only-tick i (sym (a .key-event) ∙ no-key))
-        ∙ ap (λ (f : Done). and-then f (keyed (m .settings) t (m .held) ks)) (one-tick (m .settings) (e .stamp) (m .resting))
-        ∙ keyed-sooner (m .settings) t (e .stamp) (m .held) ks (m .resting) le)
+        ∙ ap (λ (f : Done). and-then f (keyed g (m .settings) t (m .held) ks)) (one-tick g (m .settings) (e .stamp) (m .resting))
+        ∙ keyed-sooner g (m .settings) t (e .stamp) (m .held) ks (m .resting) le)
 
 -- The held set that it leaves is that of its key events.
-pub held-closes : (m : Machine) (es : List Event) (t : Stamp)
-    → after m (with-event es (tick t)) .held ≡ held-over (m .held) (along key-event-in m es)
-held-closes m [] t =
-    step-cases (λ (r : Answer). r .machine .held ≡ m .held) m (tick t) (λ n z. refl)
+pub held-closes : (g : Lent) (m : Machine) (es : List Event) (t : Stamp)
+    → after g m (with-event es (tick t)) .held ≡ held-over (m .held) (along g key-event-in m es)
+held-closes g m [] t =
+    step-cases (λ (r : Answer). r .machine .held ≡ m .held) g m (tick t) (λ n z. refl)
     (λ i a. ap (λ (j : Input). held-after (m .held) (acts-as (m .held) j)) (tick-input t i (a .is-input)))
-held-closes m (e ∷ es) t =
+held-closes g m (e ∷ es) t =
     step-cases
     (λ (r : Answer).
-    after (r .machine) (with-event es (tick t)) .held ≡ held-over (m .held) (key-event-in m e r ++ along key-event-in (r .machine) es))
+    after g (r .machine) (with-event es (tick t)) .held ≡ held-over (m .held) (key-event-in m e r ++ along g key-event-in (r .machine) es))
+    g
     m
     e
-    (λ n z. rw z (held-closes m es t))
+    (λ n z. rw z (held-closes g m es t))
     (λ i a.
-    let next = taken m e (acts-as (m .held) i) .machine in
-    let ks = along key-event-in next es in
-    held-closes next es t
+    let next = taken g m e (acts-as (m .held) i) .machine in
+    let ks = along g key-event-in next es in
+    held-closes g next es t
     ∙ by-test (λ (l : List Event). held-over (next .held) ks ≡ held-over (m .held) (l ++ ks)) (within 1 5 (e .kind))
     (λ _. ap (λ (o : Option Input). held-over (held-by (m .held) o) ks) (sym (a .is-input)))
     (λ no-key. ap (λ (j : Input). held-over (held-after (m .held) (acts-as (m .held) j)) ks) (only-tick i (sym (a .key-event) ∙ no-key))))
