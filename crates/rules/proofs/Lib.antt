@@ -24,3 +24,4 @@ pub mod MovedClock
 pub mod Pairs
 pub mod LastAccepted
 pub mod Tried
+pub mod TriedPairs

@@ -1,5 +1,5 @@
 -- Each sentence of demand 3, and the moved clock of 8/12, tried on concrete events, refused ones among them, so that none holds for
--- want of cases: the premises are met by computation, and what follows says something.
+-- want of cases: the premises are met by computation, and what follows says something. TriedPairs.antt does the same with pairs.
 use Prim.Native.Nat.{ℕ, _+_, _<_}
 use Prim.Native.Char.{code}
 use mathlib.Core.Bool.{Bool, true, _&&_, and-eq-true-iff}
@@ -11,16 +11,17 @@ use lib.ListN.{length}
 use borrow.Author.Tests.{leb-true, le-ltb}
 use Rattle.rules.specs.Choice.{if_then_else_}
 use Rattle.rules.specs.Numbers.{largest-stamp, in-range, up, A, B, FJ, FL, D, X, W}
+use Rattle.rules.specs.Pairs.{pair-of, in-some-pair, none-twice, each-good, lent-good, no-pairs, alone, longest}
 use Rattle.rules.specs.Layout.{table, code-point}
 use Rattle.rules.specs.LayoutFacts.{key}
 use Rattle.rules.specs.Held.{is-held, hold, release, how-many, held-formed}
 use Rattle.rules.specs.States.{at, fresh, well-formed}
-use Rattle.rules.specs.OneEvent.{mark, same-thumb, same-key, second-character-takes-thumb, second-thumb-takes-character, short-overlap, settle, one-event}
+use Rattle.rules.specs.OneEvent.{mark, same-thumb, same-key, second-character-takes-thumb, second-thumb-takes-character, short-overlap, settle-in, settle, one-event}
 use Rattle.rules.specs.ZeroDelay.{character, sent, sign}
-use Rattle.rules.specs.GivenBack.{input, is-new, judge, step}
+use Rattle.rules.specs.GivenBack.{input, is-new, judge, step-with, step}
 use Rattle.rules.specs.Sequences.{press, characters, state, presses, items, line, screen}
 use Rattle.rules.specs.Demand3.{with-event, SameText, TakesNothing}
-use Rattle.rules.specs.Distance.{asking}
+use Rattle.rules.specs.Distance.{asking-with, asking}
 use Rattle.rules.specs.MovedClock.{moved-events, AllStay, Told, all-told, ClockMoved}
 use Rattle.rules.specs.Examples.{usual, with-solo, が, to-wait}
 use Rattle.rules.specs.declared.Resting.the-variants.{S2}
@@ -55,16 +56,16 @@ marked = e 1 21 0 ∷ e 2 21 10 ∷ e 3 1 20 ∷ e 1 21 60 ∷ e 4 1 80 ∷ []
 
 -- What the sequences come to.
 record Computed : Type 0 where
-  busy-presses : presses usual busy ≡ press (key 21) (at 0) ∷ press (key 24) (at 100) ∷ []
-  busy-items : items usual busy ≡ が ∷ []
-  busy-line : line usual busy ≡ code "が" ∷ []
-  busy-screen : screen usual busy ≡ code "が" ∷ code "さ" ∷ []
-  busy-last : state usual busy .last ≡ at 100
-  marked-line : line with-solo marked ≡ code "か" ∷ []
-  marked-screen : screen with-solo marked ≡ code "か" ∷ code "が" ∷ []
+  busy-presses : presses no-pairs usual busy ≡ press (key 21) (at 0) ∷ press (key 24) (at 100) ∷ []
+  busy-items : items no-pairs usual busy ≡ が ∷ []
+  busy-line : line no-pairs usual busy ≡ code "が" ∷ []
+  busy-screen : screen no-pairs usual busy ≡ code "が" ∷ code "さ" ∷ []
+  busy-last : state no-pairs usual busy .last ≡ at 100
+  marked-line : line no-pairs with-solo marked ≡ code "か" ∷ []
+  marked-screen : screen no-pairs with-solo marked ≡ code "か" ∷ code "が" ∷ []
 
 computed : Computed
-unfolding e busy calm marked step judge is-new input well-formed is-held hold release how-many held-formed onesIn in-range one-event settle mark same-thumb same-key second-character-takes-thumb second-thumb-takes-character short-overlap sent character code-point table up A B FJ FL D X W
+unfolding e busy calm marked step step-with lent-good none-twice each-good in-some-pair alone pair-of judge is-new input well-formed is-held hold release how-many held-formed onesIn in-range one-event settle settle-in mark same-thumb same-key second-character-takes-thumb second-thumb-takes-character short-overlap sent character code-point table up A B FJ FL D X W longest
 computed =
     record {
       busy-presses = refl;
@@ -77,36 +78,36 @@ computed =
     }
 
 -- Sentence 1: one press is answered, and one waits.
-tried-1 : characters (items usual busy) ≡ key 21 ∷ []
-unfolding e busy calm marked step judge is-new input well-formed is-held hold release how-many held-formed onesIn in-range one-event settle mark same-thumb same-key second-character-takes-thumb second-thumb-takes-character short-overlap sent character code-point table up A B FJ FL D X W
+tried-1 : characters (items no-pairs usual busy) ≡ key 21 ∷ []
+unfolding e busy calm marked step step-with lent-good none-twice each-good in-some-pair alone pair-of judge is-new input well-formed is-held hold release how-many held-formed onesIn in-range one-event settle settle-in mark same-thumb same-key second-character-takes-thumb second-thumb-takes-character short-overlap sent character code-point table up A B FJ FL D X W longest
 tried-1 = refl
 
-one-answered : demand-3 usual usual-in-range busy .keys-in-order .answered ++ (press (key 24) (at 100) ∷ []) ≡ presses usual busy
-unfolding e busy calm marked step judge is-new input well-formed is-held hold release how-many held-formed onesIn in-range one-event settle mark same-thumb same-key second-character-takes-thumb second-thumb-takes-character short-overlap sent character code-point table up A B FJ FL D X W
-one-answered = sym (demand-3 usual usual-in-range busy .keys-in-order .presses-are)
+one-answered : demand-3 no-pairs usual usual-in-range busy .keys-in-order .answered ++ (press (key 24) (at 100) ∷ []) ≡ presses no-pairs usual busy
+unfolding e busy calm marked step step-with lent-good none-twice each-good in-some-pair alone pair-of judge is-new input well-formed is-held hold release how-many held-formed onesIn in-range one-event settle settle-in mark same-thumb same-key second-character-takes-thumb second-thumb-takes-character short-overlap sent character code-point table up A B FJ FL D X W longest
+one-answered = sym (demand-3 no-pairs usual usual-in-range busy .keys-in-order .presses-are)
 
 -- Sentence 2: 24@100 is committed by an event at 100 + W, and W is 200.
-tried-2 : 1 < length (characters (items usual (with-event busy (e 6 0 300))))
-unfolding e busy calm marked step judge is-new input well-formed is-held hold release how-many held-formed onesIn in-range one-event settle mark same-thumb same-key second-character-takes-thumb second-thumb-takes-character short-overlap sent character code-point table up A B FJ FL D X W
+tried-2 : 1 < length (characters (items no-pairs usual (with-event busy (e 6 0 300))))
+unfolding e busy calm marked step step-with lent-good none-twice each-good in-some-pair alone pair-of judge is-new input well-formed is-held hold release how-many held-formed onesIn in-range one-event settle settle-in mark same-thumb same-key second-character-takes-thumb second-thumb-takes-character short-overlap sent character code-point table up A B FJ FL D X W longest
 tried-2 =
-    demand-3 usual usual-in-range (with-event busy (e 6 0 300)) .committed-within-W busy [] (e 6 0 300) refl refl
+    demand-3 no-pairs usual usual-in-range (with-event busy (e 6 0 300)) .committed-in-time busy [] (e 6 0 300) refl refl
     (press (key 21) (at 0) ∷ []) [] (press (key 24) (at 100)) refl (lit≤ tt)
 
 -- Sentence 3: the two sequences differ in ticks and refused events only.
-tried-3 : SameText usual busy calm (at 300)
-unfolding e busy calm marked step judge is-new input well-formed is-held hold release how-many held-formed onesIn in-range one-event settle mark same-thumb same-key second-character-takes-thumb second-thumb-takes-character short-overlap sent character code-point table up A B FJ FL D X W
-tried-3 = demand-3 usual usual-in-range busy .ticks-do-not-matter calm (at 300) refl refl refl
+tried-3 : SameText no-pairs usual busy calm (at 300)
+unfolding e busy calm marked step step-with lent-good none-twice each-good in-some-pair alone pair-of judge is-new input well-formed is-held hold release how-many held-formed onesIn in-range one-event settle settle-in mark same-thumb same-key second-character-takes-thumb second-thumb-takes-character short-overlap sent character code-point table up A B FJ FL D X W longest
+tried-3 = demand-3 no-pairs usual usual-in-range busy .ticks-do-not-matter calm (at 300) refl refl refl
 
 -- Sentence 4: a line and a waiting character, neither of them empty.
-tried-4 : screen usual busy ≡ line usual busy ++ (code "さ" ∷ [])
-unfolding e busy calm marked step judge is-new input well-formed is-held hold release how-many held-formed onesIn in-range one-event settle mark same-thumb same-key second-character-takes-thumb second-thumb-takes-character short-overlap sent character code-point table up A B FJ FL D X W
-tried-4 = demand-3 usual usual-in-range busy .screen-is-line
+tried-4 : screen no-pairs usual busy ≡ line no-pairs usual busy ++ (code "さ" ∷ [])
+unfolding e busy calm marked step step-with lent-good none-twice each-good in-some-pair alone pair-of judge is-new input well-formed is-held hold release how-many held-formed onesIn in-range one-event settle settle-in mark same-thumb same-key second-character-takes-thumb second-thumb-takes-character short-overlap sent character code-point table up A B FJ FL D X W longest
+tried-4 = demand-3 no-pairs usual usual-in-range busy .screen-is-line
 
 -- Sentence 5: the tick at 100 sends a backspace, a mark and か, behind a line that is not empty.
-tried-5 : TakesNothing with-solo marked []
-unfolding e busy calm marked step judge is-new input well-formed is-held hold release how-many held-formed onesIn in-range one-event settle mark same-thumb same-key second-character-takes-thumb second-thumb-takes-character short-overlap sent character code-point table up A B FJ FL D X W
+tried-5 : TakesNothing no-pairs with-solo marked []
+unfolding e busy calm marked step step-with lent-good none-twice each-good in-some-pair alone pair-of judge is-new input well-formed is-held hold release how-many held-formed onesIn in-range one-event settle settle-in mark same-thumb same-key second-character-takes-thumb second-thumb-takes-character short-overlap sent character code-point table up A B FJ FL D X W longest
 tried-5 =
-    demand-3 with-solo solo-in-range (with-event marked (e 6 0 100)) .no-backspace-takes-committed marked [] (e 6 0 100) refl []
+    demand-3 no-pairs with-solo solo-in-range (with-event marked (e 6 0 100)) .no-backspace-takes-committed marked [] (e 6 0 100) refl []
     (sign 2 ∷ sign (code "か") ∷ []) refl
 
 -- 8/12. Seven keys, of which the last is refused 11.
@@ -132,21 +133,21 @@ all-stay k (a ∷ es) h =
 -- later; and both kinds of a stamp 0: while nothing is accepted the last stamp is 0, before the move and after it, and one that was
 -- accepted moves.
 record Moved : Type 0 where
-  calm-numbers : numbers-of (all-told usual calm) ≡ 0 ∷ 0 ∷ 0 ∷ 0 ∷ 0 ∷ 0 ∷ []
-  calm-items : items usual (moved-events 999_999_999_900 calm) ≡ が ∷ []
-  calm-rests : state usual (moved-events 999_999_999_900 calm) .resting ≡ S2 (key 24) (at 1_000_000_000_000)
-  busy-numbers : numbers-of (all-told usual (moved-events 1_000 busy)) ≡ 0 ∷ 3 ∷ 0 ∷ 0 ∷ 5 ∷ 0 ∷ 0 ∷ 4 ∷ 0 ∷ []
-  busy-line : line usual (moved-events 1_000 busy) ≡ code "が" ∷ []
-  busy-rests : state usual (moved-events 1_000 busy) .resting ≡ S2 (key 24) (at 1_100)
-  busy-last : state usual (moved-events 1_000 busy) .last ≡ at 1_100
-  busy-held : state usual (moved-events 1_000 busy) .held ≡ 16_777_216
-  busy-asked : asking (state usual busy) (at 150) ≡ to-wait 50
-  crowd-numbers : numbers-of (all-told usual (moved-events 1_000 crowd)) ≡ 0 ∷ 0 ∷ 0 ∷ 0 ∷ 0 ∷ 0 ∷ 11 ∷ []
-  fresh-stays : state usual (moved-events 1_000 (e 1 31 5 ∷ [])) ≡ fresh usual
-  first-moves : state usual (moved-events 1_000 (e 6 0 0 ∷ [])) .last ≡ at 1_000
+  calm-numbers : numbers-of (all-told no-pairs usual calm) ≡ 0 ∷ 0 ∷ 0 ∷ 0 ∷ 0 ∷ 0 ∷ []
+  calm-items : items no-pairs usual (moved-events 999_999_999_900 calm) ≡ が ∷ []
+  calm-rests : state no-pairs usual (moved-events 999_999_999_900 calm) .resting ≡ S2 (key 24) (at 1_000_000_000_000)
+  busy-numbers : numbers-of (all-told no-pairs usual (moved-events 1_000 busy)) ≡ 0 ∷ 3 ∷ 0 ∷ 0 ∷ 5 ∷ 0 ∷ 0 ∷ 4 ∷ 0 ∷ []
+  busy-line : line no-pairs usual (moved-events 1_000 busy) ≡ code "が" ∷ []
+  busy-rests : state no-pairs usual (moved-events 1_000 busy) .resting ≡ S2 (key 24) (at 1_100)
+  busy-last : state no-pairs usual (moved-events 1_000 busy) .last ≡ at 1_100
+  busy-held : state no-pairs usual (moved-events 1_000 busy) .held ≡ 16_777_216
+  busy-asked : asking no-pairs (state no-pairs usual busy) (at 150) ≡ to-wait 50
+  crowd-numbers : numbers-of (all-told no-pairs usual (moved-events 1_000 crowd)) ≡ 0 ∷ 0 ∷ 0 ∷ 0 ∷ 0 ∷ 0 ∷ 11 ∷ []
+  fresh-stays : state no-pairs usual (moved-events 1_000 (e 1 31 5 ∷ [])) ≡ fresh usual
+  first-moves : state no-pairs usual (moved-events 1_000 (e 6 0 0 ∷ [])) .last ≡ at 1_000
 
 computed-moved : Moved
-unfolding e busy calm crowd numbers-of asking step judge is-new input well-formed is-held hold release how-many held-formed onesIn in-range one-event settle mark same-thumb same-key second-character-takes-thumb second-thumb-takes-character short-overlap sent character code-point table up A B FJ FL D X W
+unfolding e busy calm crowd numbers-of asking asking-with step step-with lent-good none-twice each-good in-some-pair alone pair-of judge is-new input well-formed is-held hold release how-many held-formed onesIn in-range one-event settle settle-in mark same-thumb same-key second-character-takes-thumb second-thumb-takes-character short-overlap sent character code-point table up A B FJ FL D X W longest
 computed-moved =
     record {
       calm-numbers = refl;
@@ -163,18 +164,18 @@ computed-moved =
       first-moves = refl;
     }
 
-calm-moved : ClockMoved 999_999_999_900 usual calm
+calm-moved : ClockMoved no-pairs 999_999_999_900 usual calm
 unfolding e calm
-calm-moved = clock-moved 999_999_999_900 usual calm (all-stay 999_999_999_900 calm refl)
+calm-moved = clock-moved no-pairs 999_999_999_900 usual calm (all-stay 999_999_999_900 calm refl)
 
-busy-moved : ClockMoved 1_000 usual busy
+busy-moved : ClockMoved no-pairs 1_000 usual busy
 unfolding e busy
-busy-moved = clock-moved 1_000 usual busy (all-stay 1_000 busy refl)
+busy-moved = clock-moved no-pairs 1_000 usual busy (all-stay 1_000 busy refl)
 
-crowd-moved : ClockMoved 1_000 usual crowd
+crowd-moved : ClockMoved no-pairs 1_000 usual crowd
 unfolding e crowd
-crowd-moved = clock-moved 1_000 usual crowd (all-stay 1_000 crowd refl)
+crowd-moved = clock-moved no-pairs 1_000 usual crowd (all-stay 1_000 crowd refl)
 
 -- asked a second later
-busy-asked-moved : asking (state usual (moved-events 1_000 busy)) (at 1_150) ≡ to-wait 50
+busy-asked-moved : asking no-pairs (state no-pairs usual (moved-events 1_000 busy)) (at 1_150) ≡ to-wait 50
 busy-asked-moved = busy-moved .same-distance (at 150) (λ _. lit≤ tt) ∙ computed-moved .busy-asked
