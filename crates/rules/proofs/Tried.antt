@@ -118,11 +118,11 @@ numbers-of : List Told → List ℕ
 numbers-of ts = map (λ (t : Told). t .number) ts
 
 -- that all stamps stay in range, as a test
-abbrev in-reach : ℕ → List Event → Bool
+abbrev pub in-reach : ℕ → List Event → Bool
 in-reach k [] = true
 in-reach k (a ∷ es) = (if ltb largest-stamp (a .stamp .0) then true else leb (a .stamp .0 + k) largest-stamp) && in-reach k es
 
-all-stay : (k : ℕ) (es : List Event) → in-reach k es ≡ true → AllStay k es
+pub all-stay : (k : ℕ) (es : List Event) → in-reach k es ≡ true → AllStay k es
 all-stay k [] h = tt
 all-stay k (a ∷ es) h =
     let here = if ltb largest-stamp (a .stamp .0) then true else leb (a .stamp .0 + k) largest-stamp in

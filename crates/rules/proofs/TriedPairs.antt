@@ -4,7 +4,7 @@ use Prim.Native.Nat.{_+_, _<_}
 use Prim.Native.Char.{code}
 use mathlib.Core.Bool.{true}
 use mathlib.Core.List.{List, [], _∷_, _++_}
-use mathlib.Core.Path.{_≡_, refl, sym}
+use mathlib.Core.Path.{_≡_, refl, sym, _∙_}
 use lib.Count.{onesIn}
 use lib.Dec.{lit≤}
 use lib.ListN.{length}
@@ -19,10 +19,14 @@ use Rattle.rules.specs.ZeroDelay.{character, sent, backspace, sign}
 use Rattle.rules.specs.GivenBack.{input, is-new, judge, step-with, step}
 use Rattle.rules.specs.Sequences.{press, characters, state, presses, items, line, screen}
 use Rattle.rules.specs.Demand3.{with-event, SameText, TakesNothing}
-use Rattle.rules.specs.Examples.{an-event, usual, lent-with, two-pairs, か, さ, い, ヴ}
+use Rattle.rules.specs.Distance.{asking-with, asking}
+use Rattle.rules.specs.MovedClock.{moved-events, ClockMoved}
+use Rattle.rules.specs.Examples.{an-event, usual, lent-with, two-pairs, to-wait, か, さ, い, ヴ}
 use Rattle.rules.specs.declared.Resting.the-variants.{S8}
 use Rattle.rules.specs.declared.Event.{Event}
 use Rattle.rules.proofs.Demand3.{demand-3}
+use Rattle.rules.proofs.MovedClock.{clock-moved}
+use Rattle.rules.proofs.Tried.{all-stay}
 
 -- {21, 24} and {24, 18}, T_s=100, N=50: the longest wait is 300
 abbrev lent : Lent
@@ -125,3 +129,19 @@ unfolding step step-with lent-good none-twice each-good pair-good is-pair-charac
 second-takes =
     demand-3 lent usual usual-in-range (with-event shows-two (an-event 2 24 60)) .no-backspace-takes-committed shows-two [] (an-event 2 24 60) refl
     (backspace ∷ []) (sign (code "ヴ") ∷ []) refl
+
+-- 8/12, a second later: two letters wait as before, and are due as far off.
+record Moved : Type 0 where
+  busy-items : items lent usual (moved-events 1_000 busy) ≡ ヴ ∷ []
+  busy-rests : state lent usual (moved-events 1_000 busy) .resting ≡ S8 (key 24) (at 1_200) (key 18) (at 1_220) (at 1_230)
+  busy-asked : asking lent (state lent usual busy) (at 235) ≡ to-wait 5
+
+computed-moved : Moved
+unfolding asking asking-with step step-with lent-good none-twice each-good pair-good is-pair-character names is-of pair-of in-some-pair alone judge is-new input well-formed is-held hold release how-many held-formed onesIn in-range one-event settle settle-in mark same-thumb same-key second-character-takes-thumb second-thumb-takes-character short-overlap pair-stays short-pair short-of sent character code-point table up A B FJ FL D X W GN P X-pairs W-pairs longest
+computed-moved = record { busy-items = refl; busy-rests = refl; busy-asked = refl }
+
+busy-moved : ClockMoved lent 1_000 usual busy
+busy-moved = clock-moved lent 1_000 usual busy (all-stay 1_000 busy refl)
+
+busy-asked-moved : asking lent (state lent usual (moved-events 1_000 busy)) (at 1_235) ≡ to-wait 5
+busy-asked-moved = busy-moved .same-distance (at 235) (λ _. lit≤ tt) ∙ computed-moved .busy-asked
