@@ -87,12 +87,12 @@ bounds-by : (g : Lent) (s : Settings) (l : List Pair) → g .pairs ≡ l → len
     → Bounds g s (limits g (if-any l (X s) (X-pairs g s)) (if-any l (W s) (W-pairs g s)))
 unfolding X W X-pairs W-pairs alone in-some-pair pair-of
 bounds-by g s [] none good h =
-    bounded g s (X s) (W s) good h (λ M. rw none (le-max-left (A s) (D s))) (le-max-left (A s) (D s)) (le-max-right (A s) (D s)) (omega arith)
-    (omega arith) (λ M K pair. absurd (true≢false (sym pair ∙ rw none)))
+    bounded g s (X s) (W s) good h (λ M. rw none (le-max-left (A s) (D s))) (le-max-left (A s) (D s)) (le-max-right (A s) (D s))
+    (omega arith) (omega arith) (λ M K pair. absurd (true≢false (sym pair ∙ rw none)))
 bounds-by g s (p ∷ l) some good h =
     bounded g s (X-pairs g s) (W-pairs g s) good h
-    (λ M. both-ways (λ (n : ℕ). n ≤ X-pairs g s) (in-some-pair (g .pairs) M) (omega arith) (omega arith)) (omega arith) (omega arith) (omega arith)
-    (omega arith) (λ M K pair. omega arith)
+    (λ M. both-ways (λ (n : ℕ). n ≤ X-pairs g s) (in-some-pair (g .pairs) M) (omega arith) (omega arith))
+    (omega arith) (omega arith) (omega arith) (omega arith) (λ M K pair. omega arith)
 
 -- the limits of demand 3: w is the longest wait
 abbrev pub waits : Lent → Settings → Limits

@@ -82,7 +82,8 @@ module _ (g : Lent) (s : Settings) (r : in-range s ≡ true) where
       record {
         same-items = ap (λ (d : Done). d .items) both;
         same-state =
-            same-machine (settings-stay (with-event es (tick t)) ∙ sym (settings-stay (with-event other (tick t)))) (ap (λ (d : Done). d .resting) both)
+            same-machine (settings-stay (with-event es (tick t)) ∙ sym (settings-stay (with-event other (tick t))))
+            (ap (λ (d : Done). d .resting) both)
             (last-is-accepted g (fresh s) es (tick t) a ∙ sym (last-is-accepted g (fresh s) other (tick t) b))
             (held-closes g (fresh s) es t ∙ ap (held-over 0) same ∙ sym (held-closes g (fresh s) other t));
       }

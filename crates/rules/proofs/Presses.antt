@@ -92,8 +92,8 @@ module _ (g : Lent) (s : Settings) (q : Limits) (b : lent-good g ≡ true → Bo
       })
       (λ i a.
       let kept =
-      one-event-keeps g (m .settings) q (subst (λ (t : Settings). Bounds g t q) (sym (h .same-settings)) (b (a .was-good))) (m .last) (e .stamp)
-      (m .resting) (acts-as (m .held) i) (a .not-before) (h .sound) (a .key-below) in
+      one-event-keeps g (m .settings) q (subst (λ (t : Settings). Bounds g t q) (sym (h .same-settings)) (b (a .was-good)))
+      (m .last) (e .stamp) (m .resting) (acts-as (m .held) i) (a .not-before) (h .sound) (a .key-below) in
       record {
         next = record {
           same-settings = h .same-settings;
@@ -140,7 +140,8 @@ abbrev pub NotOlder : ℕ → ℕ → List Press → Type 0
 NotOlder w n [] = Unit {0}
 NotOlder w n (p ∷ ps) = (n < p .stamp .0 + w) × NotOlder w n ps
 
-pub waiting-not-older : {g : Lent} {s : Settings} {q : Limits} → Bounds g s q → (n : ℕ) (y : Resting) → Sound g q n y → NotOlder (q .w) n (waiting y)
+pub waiting-not-older : {g : Lent} {s : Settings} {q : Limits} → Bounds g s q → (n : ℕ) (y : Resting) → Sound g q n y
+    → NotOlder (q .w) n (waiting y)
 waiting-not-older b n S1 h = tt
 waiting-not-older b n (S2 M m) h = (omega arith, tt)
 waiting-not-older b n (S3 O o) h = tt

@@ -217,7 +217,8 @@ module _ (g : Lent) (s : Settings) (now : Stamp) (M : Key) (m : Stamp) (K : Key)
   pair-sized : (y : Resting) → length (waiting y) ≤ 1 → Sized (character M Plain ++ character K Plain) (together g M K leaving y)
   pair-sized y h = short (let two = two-few M K in omega arith)
 
-  still-sized : (y : Resting) → shown y ≡ character M Plain ++ character K Plain → Sized (character M Plain ++ character K Plain) (nothing leaving y)
+  still-sized : (y : Resting) → shown y ≡ character M Plain ++ character K Plain
+      → Sized (character M Plain ++ character K Plain) (nothing leaving y)
   still-sized y e = stays [] (e ∙ sym (append-nil _)) (omega arith)
 
   third-sized : (N : Key) → Sized (character M Plain ++ character K Plain) (third g now M m K k N)

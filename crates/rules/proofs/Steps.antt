@@ -143,9 +143,10 @@ pub machine-formed : (g : Lent) (m : Machine) → well-formed g m ≡ true → F
 unfolding well-formed
 machine-formed g m w =
     let y = m .resting in
-    let front = in-range (m .settings) && keys-below y && stamps-by (m .last) y && at-or-before (m .last) (at largest-stamp) && in-order y in
-    let fronts = and-eq-true-iff (front && held-formed (m .held)) (pair-lent g y) .0 w .0 in
-    set-formed (m .held) (and-eq-true-iff front (held-formed (m .held)) .0 fronts .1)
+    let last = m .last in
+    let front = in-range (m .settings) && keys-below y && stamps-by last y && at-or-before last (at largest-stamp) && in-order y in
+    let with-held = and-eq-true-iff (front && held-formed (m .held)) (pair-lent g y) .0 w .0 in
+    set-formed (m .held) (and-eq-true-iff front (held-formed (m .held)) .0 with-held .1)
 
 -- all that was tested of an event with the input i that is accepted, and what follows for what i acts as
 pub record Accepted (g : Lent) (m : Machine) (e : Event) (i : Input) : Type 0 where

@@ -40,21 +40,25 @@ and-then-assoc d f h =
 -- Settling.
 
 -- a late line leaves a state that is never due
-late-is-settled : (g : Lent) (s : Settings) (now : Stamp) (y : Resting) → settle g s now (late g s y .resting) ≡ (nothing leaving (late g s y .resting))
+late-is-settled : (g : Lent) (s : Settings) (now : Stamp) (y : Resting)
+    → settle g s now (late g s y .resting) ≡ (nothing leaving (late g s y .resting))
 late-is-settled g s now y = settle-once g s now (late g s y .resting) ∙ rw (late-leaves-S1 g s y)
 
 due-later : (u v : Stamp) → u .0 ≤ v .0 → (d : Option Stamp) → due-by u d ≡ true → due-by v d ≡ true
 due-later u v le none h = h
 due-later u v le (some d) h = le-leb (d .0) (v .0) (le-trans (leb-true (d .0) (u .0) h) le)
 
-pub settle-due : (g : Lent) (s : Settings) (now : Stamp) (y : Resting) → due-by now (deadline g s y) ≡ true → settle g s now y ≡ late g s y
+pub settle-due : (g : Lent) (s : Settings) (now : Stamp) (y : Resting) → due-by now (deadline g s y) ≡ true
+    → settle g s now y ≡ late g s y
 settle-due g s now y h = settle-once g s now y ∙ rw h
 
-pub settle-not-due : (g : Lent) (s : Settings) (now : Stamp) (y : Resting) → due-by now (deadline g s y) ≡ false → settle g s now y ≡ (nothing leaving y)
+pub settle-not-due : (g : Lent) (s : Settings) (now : Stamp) (y : Resting) → due-by now (deadline g s y) ≡ false
+    → settle g s now y ≡ (nothing leaving y)
 settle-not-due g s now y h = settle-once g s now y ∙ rw h
 
 -- to settle sooner changes nothing
-settle-sooner : (g : Lent) (s : Settings) (u v : Stamp) → u .0 ≤ v .0 → (y : Resting) → and-then (settle g s u y) (settle g s v) ≡ settle g s v y
+settle-sooner : (g : Lent) (s : Settings) (u v : Stamp) → u .0 ≤ v .0 → (y : Resting)
+    → and-then (settle g s u y) (settle g s v) ≡ settle g s v y
 settle-sooner g s u v le y = go (due-by u (deadline g s y)) refl
   where
     go : (t : Bool) → due-by u (deadline g s y) ≡ t → and-then (settle g s u y) (settle g s v) ≡ settle g s v y
@@ -166,7 +170,8 @@ key-event-first : (g : Lent) (s : Settings) (t : Stamp) (h : ℕ) (e : Event) (i
 unfolding one-event
 key-event-first g s t h e i ks y is =
     and-then-assoc (settle g s (e .stamp) y) (λ v. act g s (e .stamp) v (acts-as h i)) (keyed g s t (held-after h (acts-as h i)) ks)
-    ∙ ap (λ (o : Option Input). and-then (settle g s (e .stamp) y) (λ v. and-then (act-as g s (e .stamp) h v o) (keyed g s t (held-by h o) ks)))
+    ∙ ap
+    (λ (o : Option Input). and-then (settle g s (e .stamp) y) (λ v. and-then (act-as g s (e .stamp) h v o) (keyed g s t (held-by h o) ks)))
     (sym is)
 
 -- What a sequence closed by an accepted tick does is what its key events do.
@@ -201,13 +206,15 @@ closes g m (e ∷ es) t =
         → closed g (next i) es t ≡ keyed g (m .settings) t (next i .held) (along g key-event-in (next i) es) (next i .resting)
         → e .stamp .0 ≤ first-stamp (along g key-event-in (next i) es) t .0
         → after-items (one-event g (m .settings) (e .stamp) (m .resting) (acts-as (m .held) i) .items) (closed g (next i) es t)
-        ≡ keyed g (m .settings) t (m .held) ((if within 1 5 (e .kind) then (e ∷ []) else []) ++ along g key-event-in (next i) es) (m .resting)
+        ≡ keyed g (m .settings) t (m .held) ((if within 1 5 (e .kind) then (e ∷ []) else []) ++ along g key-event-in (next i) es)
+        (m .resting)
     accepted-closes i a more le =
         let d = one-event g (m .settings) (e .stamp) (m .resting) (acts-as (m .held) i) in
         let ks = along g key-event-in (next i) es in
         ap (after-items (d .items)) more
         ∙ by-test
-        (λ (l : List Event). and-then d (keyed g (m .settings) t (next i .held) ks) ≡ keyed g (m .settings) t (m .held) (l ++ ks) (m .resting))
+        (λ (l : List Event).
+        and-then d (keyed g (m .settings) t (next i .held) ks) ≡ keyed g (m .settings) t (m .held) (l ++ ks) (m .resting))
         (within 1 5 (e .kind))
         (λ _. key-event-first g (m .settings) t (m .held) e i ks (m .resting) (a .is-input))
         (λ no-key.

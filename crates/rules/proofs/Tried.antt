@@ -82,7 +82,8 @@ tried-1 : characters (items no-pairs usual busy) ≡ key 21 ∷ []
 unfolding e busy calm marked step step-with lent-good none-twice each-good in-some-pair alone pair-of judge is-new input well-formed is-held hold release how-many held-formed onesIn in-range one-event settle settle-in mark same-thumb same-key second-character-takes-thumb second-thumb-takes-character short-overlap sent character code-point table up A B FJ FL D X W longest
 tried-1 = refl
 
-one-answered : demand-3 no-pairs usual usual-in-range busy .keys-in-order .answered ++ (press (key 24) (at 100) ∷ []) ≡ presses no-pairs usual busy
+one-answered : demand-3 no-pairs usual usual-in-range busy .keys-in-order .answered ++ (press (key 24) (at 100) ∷ [])
+    ≡ presses no-pairs usual busy
 unfolding e busy calm marked step step-with lent-good none-twice each-good in-some-pair alone pair-of judge is-new input well-formed is-held hold release how-many held-formed onesIn in-range one-event settle settle-in mark same-thumb same-key second-character-takes-thumb second-thumb-takes-character short-overlap sent character code-point table up A B FJ FL D X W longest
 one-answered = sym (demand-3 no-pairs usual usual-in-range busy .keys-in-order .presses-are)
 

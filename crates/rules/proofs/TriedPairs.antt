@@ -62,7 +62,8 @@ usual-in-range = refl
 
 -- What the sequences come to.
 record Computed : Type 0 where
-  busy-presses : presses lent usual busy ≡ press (key 21) (at 0) ∷ press (key 24) (at 30) ∷ press (key 24) (at 200) ∷ press (key 18) (at 220) ∷ []
+  busy-presses : presses lent usual busy
+      ≡ press (key 21) (at 0) ∷ press (key 24) (at 30) ∷ press (key 24) (at 200) ∷ press (key 18) (at 220) ∷ []
   busy-items : items lent usual busy ≡ ヴ ∷ []
   busy-rests : state lent usual busy .resting ≡ S8 (key 24) (at 200) (key 18) (at 220) (at 230)
   busy-screen : screen lent usual busy ≡ code "ヴ" ∷ code "さ" ∷ code "い" ∷ []
@@ -96,7 +97,9 @@ tried-1 : characters (items lent usual busy) ≡ key 21 ∷ key 24 ∷ []
 unfolding step step-with lent-good none-twice each-good pair-good is-pair-character names is-of pair-of in-some-pair alone judge is-new input well-formed is-held hold release how-many held-formed onesIn in-range one-event settle settle-in mark same-thumb same-key second-character-takes-thumb second-thumb-takes-character short-overlap pair-stays short-pair short-of sent character code-point table up A B FJ FL D X W GN P X-pairs W-pairs longest
 tried-1 = refl
 
-two-answered : demand-3 lent usual usual-in-range busy .keys-in-order .answered ++ (press (key 24) (at 200) ∷ press (key 18) (at 220) ∷ []) ≡ presses lent usual busy
+two-answered : demand-3 lent usual usual-in-range busy .keys-in-order .answered
+    ++ (press (key 24) (at 200) ∷ press (key 18) (at 220) ∷ [])
+    ≡ presses lent usual busy
 unfolding step step-with lent-good none-twice each-good pair-good is-pair-character names is-of pair-of in-some-pair alone judge is-new input well-formed is-held hold release how-many held-formed onesIn in-range one-event settle settle-in mark same-thumb same-key second-character-takes-thumb second-thumb-takes-character short-overlap pair-stays short-pair short-of sent character code-point table up A B FJ FL D X W GN P X-pairs W-pairs longest
 two-answered = sym (demand-3 lent usual usual-in-range busy .keys-in-order .presses-are)
 
@@ -121,14 +124,14 @@ tried-4 = demand-3 lent usual usual-in-range busy .screen-is-line
 first-takes : TakesNothing lent usual shows-two []
 unfolding step step-with lent-good none-twice each-good pair-good is-pair-character names is-of pair-of in-some-pair alone judge is-new input well-formed is-held hold release how-many held-formed onesIn in-range one-event settle settle-in mark same-thumb same-key second-character-takes-thumb second-thumb-takes-character short-overlap pair-stays short-pair short-of sent character code-point table up A B FJ FL D X W GN P X-pairs W-pairs longest
 first-takes =
-    demand-3 lent usual usual-in-range (with-event shows-two (an-event 2 24 60)) .no-backspace-takes-committed shows-two [] (an-event 2 24 60) refl []
-    (backspace ∷ sign (code "ヴ") ∷ []) refl
+    demand-3 lent usual usual-in-range (with-event shows-two (an-event 2 24 60)) .no-backspace-takes-committed
+    shows-two [] (an-event 2 24 60) refl [] (backspace ∷ sign (code "ヴ") ∷ []) refl
 
 second-takes : TakesNothing lent usual shows-two (backspace ∷ [])
 unfolding step step-with lent-good none-twice each-good pair-good is-pair-character names is-of pair-of in-some-pair alone judge is-new input well-formed is-held hold release how-many held-formed onesIn in-range one-event settle settle-in mark same-thumb same-key second-character-takes-thumb second-thumb-takes-character short-overlap pair-stays short-pair short-of sent character code-point table up A B FJ FL D X W GN P X-pairs W-pairs longest
 second-takes =
-    demand-3 lent usual usual-in-range (with-event shows-two (an-event 2 24 60)) .no-backspace-takes-committed shows-two [] (an-event 2 24 60) refl
-    (backspace ∷ []) (sign (code "ヴ") ∷ []) refl
+    demand-3 lent usual usual-in-range (with-event shows-two (an-event 2 24 60)) .no-backspace-takes-committed
+    shows-two [] (an-event 2 24 60) refl (backspace ∷ []) (sign (code "ヴ") ∷ []) refl
 
 -- 8/12, a second later: two letters wait as before, and are due as far off.
 record Moved : Type 0 where

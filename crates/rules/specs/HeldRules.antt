@@ -28,13 +28,14 @@ down k t = record { kind = 1; key = k; stamp = t }
 abbrev pub up : Key → Stamp → Event
 up k t = record { kind = 2; key = k; stamp = t }
 
--- Of everything lent, every machine, key and stamp: a repeat, and an up of a key that is not held, give what a tick gives, refusals too. So an
--- accepted one changes nothing but the last stamp and what is late.
+-- Of everything lent, every machine, key and stamp: a repeat, and an up of a key that is not held, give what a tick gives, refusals
+-- too. So an accepted one changes nothing but the last stamp and what is late.
 pub record ActsAsTick (g : Lent) (m : Machine) (k : Key) (t : Stamp) : Type 0 where
   pub repeat : is-held (m .held) k ≡ true → step g m (down k t) ≡ step g m (tick t)
   pub stray-up : k .0 < keys → is-held (m .held) k ≡ false → step g m (up k t) ≡ step g m (tick t)
   pub repeat-changes : is-held (m .held) k ≡ true → step g m (down k t) .number ≡ 0 → step g m (down k t) ≡ only-time-passes g m t
-  pub stray-up-changes : k .0 < keys → is-held (m .held) k ≡ false → step g m (up k t) .number ≡ 0 → step g m (up k t) ≡ only-time-passes g m t
+  pub stray-up-changes : k .0 < keys → is-held (m .held) k ≡ false → step g m (up k t) .number ≡ 0
+      → step g m (up k t) ≡ only-time-passes g m t
 
 -- the same with another held set
 abbrev pub holding : ℕ → Machine → Machine
@@ -43,8 +44,8 @@ holding h m = record { settings = m .settings; resting = m .resting; last = m .l
 abbrev pub answer-holding : ℕ → Answer → Answer
 answer-holding h r = record { number = r .number; items = r .items; sendings = r .sendings; machine = holding h (r .machine) }
 
--- Of everything lent, every machine, event and set h: an event that is neither a down nor an up of a character key asks nothing of the held set but
--- whether it is well formed, and leaves it as it is. With h in its place it gives the same.
+-- Of everything lent, every machine, event and set h: an event that is neither a down nor an up of a character key asks nothing of the
+-- held set but whether it is well formed, and leaves it as it is. With h in its place it gives the same.
 abbrev pub SetNotRead : Lent → Machine → Event → ℕ → Type 0
 SetNotRead g m e h =
     e .kind ≢ 1 → e .kind ≢ 2 → held-formed h ≡ held-formed (m .held) → step g (holding h m) e ≡ answer-holding h (step g m e)

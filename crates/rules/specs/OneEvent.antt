@@ -121,9 +121,9 @@ in-S3 s now O o (ThumbUp P) = if same-thumb P O then (mark s O leaving S1) else 
 in-S3 s now O o FunctionDown = mark s O leaving S1
 in-S3 s now O o Tick = nothing leaving S3 O o
 
--- S4, a=o-m (lag m o), b=now-o (lag o now): character → if a>b commit M, S5 with the same O and the new key; else commit M+O, S2 with the new key.
--- Other thumb → commit M+O, S3 with it. M up → if the overlap is short commit M, S3 with O and its old stamp; else commit
--- M+O, S1. O up or function → commit M+O, S1.
+-- S4, a=o-m (lag m o), b=now-o (lag o now): character → if a>b commit M, S5 with the same O and the new key; else commit M+O, S2 with
+-- the new key. Other thumb → commit M+O, S3 with it. M up → if the overlap is short commit M, S3 with O and its old stamp; else
+-- commit M+O, S1. O up or function → commit M+O, S1.
 abbrev pub in-S4 : Settings → Stamp → Key → Stamp → Thumb → Stamp → Input → Done
 in-S4 s now M m O o (CharacterDown N) =
     if second-character-takes-thumb (lag m o) (lag o now) then (plain M leaving S5 O o N now)
@@ -137,9 +137,9 @@ in-S4 s now M m O o (ThumbUp P) = if same-thumb P O then (chord M O leaving S1) 
 in-S4 s now M m O o FunctionDown = chord M O leaving S1
 in-S4 s now M m O o Tick = nothing leaving S4 M m O o
 
--- S5, a=m-o (lag o m), b=now-m (lag m now): character → commit M+O, S2 with the new key. Other thumb → if a≥b mark O, S4 with M and the new thumb;
--- else commit M+O, S3 with the new thumb. O up → if the overlap is short S6; else commit M+O, S1. M up or function → commit
--- M+O, S1.
+-- S5, a=m-o (lag o m), b=now-m (lag m now): character → commit M+O, S2 with the new key. Other thumb → if a≥b mark O, S4 with M and
+-- the new thumb; else commit M+O, S3 with the new thumb. O up → if the overlap is short S6; else commit M+O, S1. M up or function →
+-- commit M+O, S1.
 abbrev pub in-S5 : Settings → Stamp → Thumb → Stamp → Key → Stamp → Input → Done
 in-S5 s now O o M m (CharacterDown N) = chord M O leaving S2 N now
 in-S5 s now O o M m (CharacterUp N) = if same-key N M then (chord M O leaving S1) else (nothing leaving S5 O o M m)
