@@ -8,6 +8,7 @@ use native.Mathlib.Decide.{decLe}
 use lib.Dec.{ltb, lit≤}
 use borrow.Author.Tests.{lt-ltb, le-ltb}
 use Rattle.rules.specs.Numbers.{largest-stamp, up, A, B, FJ, FL, D, X, W}
+use Rattle.rules.specs.Pairs.{GN}
 use Rattle.rules.specs.States.{at, later}
 use Rattle.rules.specs.OneEvent.{short-overlap}
 use Rattle.rules.specs.declared.Stamp.{Stamp}
@@ -64,6 +65,17 @@ pub record Held (s : Settings) : Type 0 where
   pub j : s .j < 256
   pub l : s .l < 256
 
+-- the waits of two letters, for any T_s, lag and N
+pub P-bound : {ts n : ℕ} → ts < 65536 → n < 256 → GN n ts ≤ 6_553_755
+unfolding GN
+P-bound h k = alone-bound h k
+
+pub GN-bound : {x n : ℕ} → x ≤ largest-stamp → n < 256 → GN n x ≤ largest-stamp * 100 + 256
+unfolding GN
+GN-bound {x} {n} h k =
+    let rest : 100 - n ≤ 100 = omega arith in
+    omega (arith, up-bound (x * (100 - n)) n, mul-le-mul h rest)
+
 module _ (s : Settings) (held : Held s) where
   pub A-bound : A s ≤ 6_553_755
   unfolding A
@@ -85,14 +97,14 @@ module _ (s : Settings) (held : Held s) where
   unfolding X D
   X-bound = let a : A s ≤ 1_671_207_625 = omega (arith, A-bound) in max-le a (FL-bound B-bound)
 
--- two long gaps decide alike whether an overlap below 400 is in its share
-long-gaps : (p x y b : ℕ) → b < 400 → 40_000 ≤ x → 40_000 ≤ y → ltb (100 * b) (p * (x + b)) ≡ ltb (100 * b) (p * (y + b))
+-- two long gaps decide alike whether an overlap of two bytes is in its share
+long-gaps : (p x y b : ℕ) → b < 65_536 → 6_553_600 ≤ x → 6_553_600 ≤ y → ltb (100 * b) (p * (x + b)) ≡ ltb (100 * b) (p * (y + b))
 long-gaps zero x y b h i j = rw (zero-mul (x + b), zero-mul (y + b))
 long-gaps (suc p) x y b h i j =
     lt-ltb (100 * b) (suc p * (x + b)) (omega (arith, suc-mul p (x + b))) ∙
     sym (lt-ltb (100 * b) (suc p * (y + b)) (omega (arith, suc-mul p (y + b))))
 
-in-share : (p a b : ℕ) → b < 400 → Dec (a ≤ largest-stamp)
+in-share : (p a b : ℕ) → b < 65_536 → Dec (a ≤ largest-stamp)
     → ltb (100 * b) (p * (lag-at-most a + b)) ≡ ltb (100 * b) (p * (a + b))
 in-share p a b h (yes i) = rw (lag-fits a i)
 in-share p a b h (no i) =
@@ -103,17 +115,26 @@ in-share p a b h (no i) =
 pub short-at-most : (p a b : ℕ) → b < 400 → ltb (100 * b) (p * (lag-at-most a + b)) ≡ short-overlap p a b
 unfolding short-overlap
 short-at-most p a b h =
-    in-share p a b h (decLe a largest-stamp) ∙ sym (rw (lt-ltb b 400 h) (and-true (ltb (100 * b) (p * (a + b)))))
+    in-share p a b (omega arith) (decLe a largest-stamp) ∙ sym (rw (lt-ltb b 400 h) (and-true (ltb (100 * b) (p * (a + b)))))
 
 pub not-short : (p a b : ℕ) → 400 ≤ b → false ≡ short-overlap p a b
 unfolding short-overlap
 not-short p a b h = sym (rw (le-ltb b 400 h) (and-false (ltb (100 * b) (p * (a + b)))))
 
+-- the same of two letters, with T_s for 400
+pub short-pair-at-most : (ts p a b : ℕ) → ts < 65_536 → b < ts
+    → ltb (100 * b) (p * (lag-at-most a + b)) ≡ (ltb (100 * b) (p * (a + b)) && ltb b ts)
+short-pair-at-most ts p a b two h =
+    in-share p a b (omega arith) (decLe a largest-stamp) ∙ sym (rw (lt-ltb b ts h) (and-true (ltb (100 * b) (p * (a + b)))))
+
+pub not-short-pair : (ts p a b : ℕ) → ts ≤ b → false ≡ (ltb (100 * b) (p * (a + b)) && ltb b ts)
+not-short-pair ts p a b h = sym (rw (le-ltb b ts h) (and-false (ltb (100 * b) (p * (a + b)))))
+
 -- what the test of an overlap multiplies
-pub overlap-product : {p x b : ℕ} → p < 256 → x ≤ largest-stamp → b < 400 → p * (x + b) ≤ 255 * (largest-stamp + 400)
+pub overlap-product : {p x b : ℕ} → p < 256 → x ≤ largest-stamp → b < 65_536 → p * (x + b) ≤ 255 * (largest-stamp + 65_536)
 overlap-product {p} {x} {b} h i j =
     let p′ : p ≤ 255 = omega arith in
-    let x′ : x + b ≤ largest-stamp + 400 = omega arith in
+    let x′ : x + b ≤ largest-stamp + 65_536 = omega arith in
     mul-le-mul p′ x′
 
 -- D and W from their parts: no bound is met

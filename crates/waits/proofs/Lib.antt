@@ -2,3 +2,4 @@ pub mod Bounds
 pub mod Distances
 pub mod Halving
 pub mod Below
+pub mod Digits

@@ -1,2 +1,3 @@
 pub mod Capped
 pub mod Turns
+pub mod Digits

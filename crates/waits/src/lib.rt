@@ -10,13 +10,17 @@ use rules::Machine;
 use rules::Settings;
 use rules::Stamp;
 ghost use mathlib.Core.Path.{_≡_};
-ghost use Prim.Native.Nat.{_+_, _-_, _*_, _/_, _≤_, _<_, min, max};
+ghost use mathlib.Core.Bool.{_&&_};
+ghost use Prim.Native.Nat.{_+_, _-_, _*_, _/_, _%_, _≤_, _<_, min, max};
 ghost use Rattle.rules.specs.Numbers as Numbers;
 ghost use Rattle.rules.specs.Numbers.{largest-stamp, up};
 ghost use Rattle.rules.specs.States.{lag, at-or-before, is-key};
+ghost use Rattle.rules.specs.Pairs.{GN};
 ghost use Rattle.rules.specs.OneEvent.{same-key, second-character-takes-thumb, second-thumb-takes-character, short-overlap};
+ghost use Rattle.rules.specs.OneEvent.{pair-stays, short-of};
 ghost use lib.Dec.{ltb};
 ghost use Rattle.waits.specs.Turns.{Above};
+ghost use Rattle.waits.specs.Digits.{digit};
 ghost use Rattle.waits.specs.Capped.{since-at-most, later-at-most, lag-at-most, signed-at-most, distance-at-most, is-before};
 
 // The largest number that a stamp can hold.
@@ -24,6 +28,9 @@ const LARGEST_NUMBER: u64 = 18_446_744_073_709_551_615;
 
 // The largest number that a signed count can hold.
 const LARGEST_SIGNED: u64 = 9_223_372_036_854_775_807;
+
+// The lower 32 bits.
+const LOW_DIGIT: u64 = 0xFFFF_FFFF;
 
 // The lag from one stamp to another, none where the other is not later.
 pub fn lag(from: Stamp, to: Stamp) -> Lag
@@ -131,6 +138,53 @@ pub fn short_overlap(percent: u8, a: Lag, b: Lag) -> bool
         return false;
     }
     100 * overlap < (percent as u64) * (bounded(a) + overlap)
+}
+
+// S7 and S8, a third key: the pair stays together where its two keys are nearer to each other.
+pub fn pair_stays(a: Lag, b: Lag) -> bool
+    ensures { λ r. ⌜ r ≡ pair-stays (a .0) (b .0) ⌝ }
+{
+    let gap = a.0;
+    gap < b.0
+}
+
+// S7, the first key up: the overlap b after the gap a is short, in its share of both and below T_s (`short-pair`). The gap is
+// bounded as in `short_overlap`.
+pub fn short_pair(ts: u16, n: u8, a: Lag, b: Lag) -> bool
+    ensures { λ r. ⌜ r ≡ (ltb (100 * b .0) (n * (a .0 + b .0)) && ltb (b .0) ts) ⌝ }
+{
+    let overlap = b.0;
+    if (ts as u64) <= overlap {
+        return false;
+    }
+    100 * overlap < (n as u64) * (bounded(a) + overlap)
+}
+
+// A product that might not fit, as two digits to the base 2 to the 32: the upper one, which may be a larger number.
+fn upper(percent: u8, x: u64) -> u64
+    ensures { λ r. ⌜ r ≡ (percent * x) / digit ⌝ }
+{
+    let by = percent as u64;
+    by * (x >> 32) + ((by * (x & LOW_DIGIT)) >> 32)
+}
+
+// The lower one.
+fn lower(percent: u8, x: u64) -> u64
+    ensures { λ r. ⌜ r ≡ (percent * x) % digit ⌝ }
+{
+    ((percent as u64) * (x & LOW_DIGIT)) & LOW_DIGIT
+}
+
+// S8, the second key up: the overlap b is below a percentage of the time c. Both may be any numbers.
+pub fn short_of(percent: u8, b: Lag, c: Lag) -> bool
+    ensures { λ r. ⌜ r ≡ short-of percent (b .0) (c .0) ⌝ }
+{
+    let overlap = upper(100, b.0);
+    let share = upper(percent, c.0);
+    if overlap == share {
+        return lower(100, b.0) < lower(percent, c.0);
+    }
+    overlap < share
 }
 
 // What a percentage leaves of 100.
@@ -245,13 +299,28 @@ pub fn thumb_first_wait(s: Settings, x: Lag) -> Lag
     together(x, s.l)
 }
 
-fn longer(x: Lag, y: Lag) -> Lag
+// The longer of two lags.
+pub fn longer(x: Lag, y: Lag) -> Lag
     ensures { λ r. ⌜ r .0 ≡ max (x .0) (y .0) ⌝ }
 {
     if x.0 <= y.0 {
         return y;
     }
     x
+}
+
+// P, the wait of a letter that is in some pair, but for A.
+pub fn pair_wait(ts: u16, n: u8) -> Lag
+    ensures { λ r. ⌜ r .0 ≡ GN n ts ⌝ }
+{
+    alone(ts, n)
+}
+
+// GN, the wait of two letters after the first is up, from then on, for the time that both were down.
+pub fn released_wait(n: u8, x: Lag) -> Lag
+    ensures { λ r. ⌜ r .0 ≡ GN n (lag-at-most (x .0)) ⌝ }
+{
+    Lag(share(bounded(x), rest(n), n))
 }
 
 // X, the larger of A and D = FL(B).
@@ -335,4 +404,18 @@ pub fn thumb_first_wait_below(s: Settings, x: Lag, y: Lag) -> bool
         return share_below(bounded(thumb_wait(s)), s.l, rest(s.l), y.0);
     }
     share_below(bounded(x), s.l, rest(s.l), y.0)
+}
+
+// Whether P is below y.
+pub fn pair_wait_below(ts: u16, n: u8, y: Lag) -> bool
+    ensures { λ r. ⌜ r ≡ ltb (GN n ts) (y .0) ⌝ }
+{
+    share_below(ts as u64, rest(n), n, y.0)
+}
+
+// Whether the wait of two letters after the first is up is below y.
+pub fn released_wait_below(n: u8, x: Lag, y: Lag) -> bool
+    ensures { λ r. ⌜ r ≡ ltb (GN n (lag-at-most (x .0))) (y .0) ⌝ }
+{
+    share_below(bounded(x), rest(n), n, y.0)
 }

@@ -1,4 +1,5 @@
 -- `waits::short_overlap` meets its contract.
+use Prim.Native.Nat.{_<_}
 use native.Mathlib.Omega.{arith}
 use borrow.Author.Needs.{needs}
 use Rattle.waits.proofs.Bounds.{lag-bound, overlap-product, short-at-most, not-short}
@@ -16,5 +17,6 @@ short-overlap-spec =
     (λ c.
     let a = c .before .before .before in
     rw (c .bounded .ensures)
-    (omega (arith, overlap-product (a .fits .percent .fits) (lag-bound (a .args .a .0)) (c .before .if1 .left))))
+    (let b : a .args .b .0 < 65_536 = omega (arith, c .before .if1 .left) in
+    omega (arith, overlap-product (a .fits .percent .fits) (lag-bound (a .args .a .0)) b)))
     (λ c. rw (c .bounded .ensures) (short-at-most _ _ _ (c .before .if1 .left))))
