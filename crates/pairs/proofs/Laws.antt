@@ -12,8 +12,8 @@ use lib.Dec.{ltb, leb}
 use lib.ListN.{length, getD, take, drop, length-drop}
 use lib.Seq.{drop-cons, drop-length, take-all}
 use Rattle.rules.specs.Numbers.{within}
-use Rattle.rules.specs.Pairs.{pairs-most, T-s-least, T-s-most, N-least, N-most, is-of, pair-of, is-some, is-pair, in-some-pair, none-twice, is-pair-character, pair-good, each-good, lent-good}
-use Rattle.rules.specs.OneEvent.{same-key}
+use Rattle.rules.specs.Pairs.{pairs-most, T-s-least, T-s-most, N-least, N-most, same-key, is-of, pair-of, is-some, is-pair, or-0}
+use Rattle.rules.specs.Pairs.{in-some-pair, none-twice, is-pair-character, pair-good, each-good, lent-good}
 use Rattle.rules.specs.States.{is-key}
 use Rattle.rules.specs.declared.Key.{Key}
 use Rattle.pairs.specs.Lent.{pair-in, pairs-in, lent, paired}
@@ -203,6 +203,13 @@ told-none e n = rw (← e, n)
 
 pub told-some : {p : Paired} {o : Option ℕ} {c : ℕ} → paired p ≡ o → p ≡ Some c → true ≡ is-some o
 told-some e n = rw (← e, n)
+
+-- the character that was told
+pub character-none : {p : Paired} {o : Option ℕ} → paired p ≡ o → p ≡ None → 0 ≡ or-0 o
+character-none e n = rw (← e, n)
+
+pub character-some : {p : Paired} {o : Option ℕ} {c : ℕ} → paired p ≡ o → p ≡ Some c → c ≡ or-0 o
+character-some e n = rw (← e, n)
 
 -- what is lent, by the tests of the code, in their order
 module _ (l : List ℕ) (times : Times) where

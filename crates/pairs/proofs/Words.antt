@@ -6,8 +6,7 @@ use mathlib.Core.Path.{_≡_}
 use borrow.Author.Tests.{ltb-true, leb-true}
 use lib.Dec.{ltb, leb}
 use Rattle.rules.specs.Numbers.{within}
-use Rattle.rules.specs.OneEvent.{same-key}
-use Rattle.rules.specs.Pairs.{Pair, is-pair-character, pair-good}
+use Rattle.rules.specs.Pairs.{Pair, same-key, is-pair-character, pair-good}
 use Rattle.pairs.specs.Lent.{pair-in}
 use Rattle.pairs.specs.LentFacts.{word, CanBeLent}
 

@@ -6,7 +6,7 @@ use waits::same_key;
 ghost use mathlib.Core.Path.{_≡_};
 ghost use lib.Dec.{leb};
 ghost use lib.ListN.{length};
-ghost use Rattle.rules.specs.Pairs.{pairs-most, names, is-of, pair-of, is-pair, in-some-pair, none-twice, is-pair-character, pair-good, each-good, lent-good};
+ghost use Rattle.rules.specs.Pairs.{pairs-most, names, is-of, pair-of, is-pair, pair-character, in-some-pair, none-twice, is-pair-character, pair-good, each-good, lent-good};
 ghost use Rattle.pairs.specs.Lent.{pair-in, pairs-in, lent, paired};
 
 // So many pairs are accepted.
@@ -83,6 +83,16 @@ pub fn is_pair(list: &[u32], a: Key, b: Key) -> bool
     match pair_of(list, a, b) {
         Paired::None => false,
         Paired::Some(_) => true,
+    }
+}
+
+// The character that a list gives two keys, 0 where they are no pair.
+pub fn pair_character(list: &[u32], a: Key, b: Key) -> u16
+    ensures { λ r. ⌜ r ≡ pair-character (pairs-in (now (list .entry))) a b ⌝ }
+{
+    match pair_of(list, a, b) {
+        Paired::None => 0,
+        Paired::Some(c) => c,
     }
 }
 
