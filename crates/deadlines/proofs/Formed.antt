@@ -3,25 +3,27 @@
 use mathlib.Core.Path.{_≡_, refl, ap, sym, subst, _∙_}
 use mathlib.Core.Bool.{Bool, true, false, _&&_, and-eq-true-iff}
 use mathlib.Core.Option.{Option, none, some}
-use Prim.Native.Nat.{ℕ, _+_, _≤_, min}
-use native.Mathlib.Nat.{min-le-left}
+use Prim.Native.Nat.{ℕ, _+_, _≤_, _<_, min, max}
+use native.Mathlib.Nat.{min-le-left, max-le}
 use native.Mathlib.Omega.{arith}
 use lib.Dec.{ltb, eqb}
 use lib.IntN.{ℤ}
 use borrow.Author.Tests.{leb-true, ltb-false}
 use Rattle.rules.specs.Choice.{if_then_else_}
 use Rattle.rules.specs.Numbers.{largest-stamp, in-range, A, B, FJ, FL}
+use Rattle.rules.specs.Pairs.{Lent, in-some-pair, GN, P, alone}
 use Rattle.rules.specs.Held.{held-formed}
-use Rattle.rules.specs.States.{at, lag, at-or-before, later, deadline, keys-below, stamps-by, in-order, well-formed}
-use Rattle.rules.specs.Distance.{distance-to, Asking, not-answered, at-stamp, asking}
+use Rattle.rules.specs.States.{at, lag, at-or-before, later, deadline, keys-below, stamps-by, in-order, pair-lent, well-formed}
+use Rattle.rules.specs.Distance.{distance-to, Asking, not-answered, at-stamp, asking-with}
 use Rattle.rules.specs.declared.Stamp.{Stamp}
+use Rattle.rules.specs.declared.Key.{Key}
 use Rattle.rules.specs.declared.Settings.{Settings}
 use Rattle.rules.specs.declared.Resting.{Resting}
-use Rattle.rules.specs.declared.Resting.the-variants.{S1, S2, S3, S4, S5, S6}
+use Rattle.rules.specs.declared.Resting.the-variants.{S1, S2, S3, S4, S5, S6, S7, S8}
 use Rattle.rules.specs.declared.Machine.{Machine}
 use Rattle.rules.proofs.Choices.{both-ways}
 use Rattle.rules.proofs.Tests.{range-bounds}
-use Rattle.waits.proofs.Bounds.{Held, later-fits, lag-fits, A-bound, B-bound, FJ-bound, FL-bound}
+use Rattle.waits.proofs.Bounds.{Held, later-fits, lag-fits, A-bound, B-bound, FJ-bound, FL-bound, P-bound, GN-bound}
 use Rattle.waits.specs.Capped.{largest-signed, later-at-most}
 use Rattle.waits.proofs.Distances.{distance-fits}
 use Rattle.deadlines.specs.Capped.{deadline-at-most, distance-to-at-most}
@@ -40,22 +42,36 @@ Holds none = Unit {0}
 Holds (some d) = d .0 ≤ largest-signed
 
 -- what is answered is document 01's deadline, and a signed number holds it
-record Fits (s : Settings) (x : Resting) : Type 0 where
-  same : deadline-at-most s x ≡ deadline s x
-  held : Holds (deadline s x)
+record Fits (g : Lent) (s : Settings) (x : Resting) : Type 0 where
+  same : deadline-at-most g s x ≡ deadline g s x
+  held : Holds (deadline g s x)
 
 sum-fits : (a : Stamp) (x : ℕ) → a .0 + x ≤ largest-signed → later-at-most a x ≡ later a x
 sum-fits a x h = later-fits a x (omega arith)
 
-module _ (s : Settings) (held : Held s) (last : Stamp) (top : last .0 ≤ largest-stamp) where
+-- T_s and N are numbers of two bytes and of one
+pub record LentHeld (g : Lent) : Type 0 where
+  pub t-s : g .t-s < 65_536
+  pub n : g .n < 256
+
+P-fits : (g : Lent) → LentHeld g → P g ≤ 6_553_755
+unfolding P
+P-fits g h = P-bound (h .t-s) (h .n)
+
+pub alone-fits : (g : Lent) → LentHeld g → (s : Settings) → Held s → (M : Key) → alone g s M ≤ 6_553_755
+unfolding alone
+alone-fits g h s held M =
+    both-ways (λ (n : ℕ). n ≤ 6_553_755) (in-some-pair (g .pairs) M) (max-le (A-bound s held) (P-fits g h)) (A-bound s held)
+
+module _ (g : Lent) (lent-held : LentHeld g) (s : Settings) (held : Held s) (last : Stamp) (top : last .0 ≤ largest-stamp) where
   at-most : (a : Stamp) → at-or-before a last ≡ true → a .0 ≤ largest-stamp
   at-most a e = omega (arith, leb-true (a .0) (last .0) e)
 
-  by-state : (x : Resting) → stamps-by last x ≡ true → Fits s x
+  by-state : (x : Resting) → stamps-by last x ≡ true → Fits g s x
   by-state S1 e = record { same = refl; held = tt }
   by-state (S2 M m) e =
-      let h : m .0 + A s ≤ largest-signed = omega (arith, at-most m e, A-bound s held) in
-      record { same = rw (sum-fits m (A s) h); held = h }
+      let h : m .0 + alone g s M ≤ largest-signed = omega (arith, at-most m e, alone-fits g lent-held s held M) in
+      record { same = rw (sum-fits m (alone g s M) h); held = h }
   by-state (S3 O o) e =
       let h : o .0 + B s ≤ largest-signed = omega (arith, at-most o e, B-bound s held) in
       record { same = rw (sum-fits o (B s) h); held = both-ways Holds (eqb (s .solo) 1) h tt }
@@ -74,29 +90,40 @@ module _ (s : Settings) (held : Held s) (last : Stamp) (top : last .0 ≤ larges
       let k : r .0 ≤ largest-stamp = at-most r (second (at-or-before o last && at-or-before m last) (at-or-before r last) e) in
       let h : r .0 + lag m r ≤ largest-signed = omega arith in
       record { same = rw (sum-fits r (lag m r) h); held = h }
+  by-state (S7 M m K k) e =
+      let b : k .0 ≤ largest-stamp = at-most k (second (at-or-before m last) (at-or-before k last) e) in
+      let h : k .0 + g .t-s ≤ largest-signed = omega arith in
+      record { same = rw (sum-fits k (g .t-s) h); held = h }
+  by-state (S8 M m K k r) e =
+      let b : r .0 ≤ largest-stamp = at-most r (second (at-or-before m last && at-or-before k last) (at-or-before r last) e) in
+      let x : lag k r ≤ largest-stamp = omega arith in
+      let h : r .0 + GN (g .n) (lag k r) ≤ largest-signed = omega (arith, GN-bound x (lent-held .n)) in
+      record { same = rw (lag-fits (lag k r) x, sum-fits r (GN (g .n) (lag k r)) h); held = h }
 
-well-formed-fits : (x : Machine) → well-formed x ≡ true → Fits (x .settings) (x .resting)
+well-formed-fits : (g : Lent) → LentHeld g → (x : Machine) → well-formed g x ≡ true → Fits g (x .settings) (x .resting)
 unfolding well-formed
-well-formed-fits x e =
+well-formed-fits g lent-held x e =
     let R = in-range (x .settings) in
     let K = keys-below (x .resting) in
     let S = stamps-by (x .last) (x .resting) in
     let L = at-or-before (x .last) (at largest-stamp) in
     let O = in-order (x .resting) in
-    let rkslo = and-eq-true-iff (R && K && S && L && O) (held-formed (x .held)) .0 e in
+    let H = held-formed (x .held) in
+    let all = and-eq-true-iff (R && K && S && L && O && H) (pair-lent g (x .resting)) .0 e in
+    let rkslo = and-eq-true-iff (R && K && S && L && O) H .0 (all .0) in
     let rksl = and-eq-true-iff (R && K && S && L) O .0 (rkslo .0) in
     let rks = and-eq-true-iff (R && K && S) L .0 (rksl .0) in
     let rk = and-eq-true-iff (R && K) S .0 (rks .0) in
-    by-state (x .settings)
+    by-state g lent-held (x .settings)
     (in-range-held (x .settings) (and-eq-true-iff R K .0 (rk .0) .0))
     (x .last)
     (leb-true (x .last .0) largest-stamp (rks .1))
     (x .resting)
     (rk .1)
 
-pub well-formed-deadline : (x : Machine) → well-formed x ≡ true
-    → deadline-at-most (x .settings) (x .resting) ≡ deadline (x .settings) (x .resting)
-well-formed-deadline x e = well-formed-fits x e .same
+pub well-formed-deadline : (g : Lent) → LentHeld g → (x : Machine) → well-formed g x ≡ true
+    → deadline-at-most g (x .settings) (x .resting) ≡ deadline g (x .settings) (x .resting)
+well-formed-deadline g h x e = well-formed-fits g h x e .same
 
 same-distance : (now : Stamp) → now .0 ≤ largest-stamp → (d : Option Stamp) → Holds d → distance-to now d ≡ distance-to-at-most now d
 same-distance now low none h = refl
@@ -115,12 +142,12 @@ same-answer last now {a} {b} same = go (ltb largest-stamp (now .0)) refl
     go false e = ap accepted (same (ltb-false _ _ e))
 
 -- what a machine that is well formed answers, with its deadline as the code has it
-pub well-formed-asking : (x : Machine) (now : Stamp) (d : Option Stamp) → well-formed x ≡ true
-    → d ≡ deadline-at-most (x .settings) (x .resting)
-    → asking x now ≡ at-stamp (x .last) now (distance-to-at-most now d)
-unfolding asking
-well-formed-asking x now d e f =
-    let fit = well-formed-fits x e in
+pub well-formed-asking : (g : Lent) → LentHeld g → (x : Machine) (now : Stamp) (d : Option Stamp) → well-formed g x ≡ true
+    → d ≡ deadline-at-most g (x .settings) (x .resting)
+    → asking-with g x now ≡ at-stamp (x .last) now (distance-to-at-most now d)
+unfolding asking-with
+well-formed-asking g lent-held x now d e f =
+    let fit = well-formed-fits g lent-held x e in
     let same = f ∙ fit .same in
     let held : Holds d = subst Holds (sym same) (fit .held) in
     rw (e, ← same) (same-answer (x .last) now (λ low. same-distance now low d held))

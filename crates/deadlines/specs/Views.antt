@@ -13,6 +13,7 @@ when (due.At d) = some d
 
 -- the number given back, and the distance if there is a deadline
 abbrev pub asked : Asked → Asking
+asked asked-as.LentRefused = not-answered 12
 asked asked-as.NotWellFormed = not-answered 2
 asked asked-as.AboveLargest = not-answered 4
 asked asked-as.BeforeLast = not-answered 5

@@ -28,8 +28,15 @@ deadline-spec =
     (λ c. search needs)
     (λ c κs. tt)
     (λ c κs. tt)
+    (λ c. search needs)
+    (λ c. search needs)
+    (λ c κs. tt)
+    (λ c. search needs)
+    (λ c κs. tt)
+    (λ c κs. tt)
+    (λ c κs. tt)
     (λ c. rw (c .enum-told .given .1))
-    (λ c. rw (c .before .before .before .resting .given .1, ← c .before .character-wait .ensures, ← c .later .ensures))
+    (λ c. rw (c .before .before .before .resting .given .1, ← c .before .alone .ensures, ← c .later .ensures))
     (λ c.
     rw (
       c .before .before .before .before .before .resting2 .given .1,
@@ -54,4 +61,12 @@ deadline-spec =
       ← c .before .thumb-first-wait .ensures,
       ← c .later4 .ensures,
     ))
-    (λ c. rw (c .before .before .before .resting5 .given .1, ← c .before .lag3 .ensures, ← c .later5 .ensures)))
+    (λ c. rw (c .before .before .before .resting5 .given .1, ← c .before .lag3 .ensures, ← c .later5 .ensures))
+    (λ c. rw (c .before .before .before .resting6 .given .1, ← c .later6 .ensures))
+    (λ c.
+    rw (
+      c .before .before .before .before .resting7 .given .1,
+      ← c .before .before .lag4 .ensures,
+      ← c .before .released-wait .ensures,
+      ← c .later7 .ensures,
+    )))

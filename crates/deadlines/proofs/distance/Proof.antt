@@ -1,7 +1,7 @@
--- `deadlines::distance` meets its contract: in a machine that is well formed, at a stamp that it accepts, no bound is met.
-use Rattle.rules.specs.Distance.{asking}
+-- `deadlines::distance` meets its contract.
+use borrow.Author.Needs.{needs}
 use Rattle.deadlines.proofs.Answers.{failed, passed}
-use Rattle.deadlines.proofs.Formed.{well-formed-asking}
+use Rattle.rules.specs.Distance.{asking}
 use Rattle.deadlines.proofs.distance.Statement.{statement}
 use Rattle.deadlines.proofs.distance.Tie as tie
 
@@ -11,12 +11,6 @@ distance-spec =
     tie.close
     (tie.spec
     (λ c κs. tt)
-    (λ c. rw (failed (c .before .well-formed .ensures) (c .if1 .taken)))
+    (λ c. rw (failed (c .before .lent-good .ensures) (c .if1 .taken)))
     (λ c κs. tt)
-    (λ c κs. tt)
-    (λ c.
-    let w = c .before .before .before .before in
-    rw (
-      well-formed-asking _ _ _ (passed (w .before .well-formed .ensures) (w .if1 .left)) (c .before .deadline .ensures),
-      ← c .at-stamp .ensures,
-    )))
+    (λ c. rw (passed (c .before .before .lent-good .ensures) (c .before .if1 .left), ← c .distance-with .ensures)))
