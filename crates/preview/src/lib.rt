@@ -1,12 +1,14 @@
 // Zero delay: what a step sends, from what was shown before it, what it commits and what is shown after it.
 use rules::Face;
 use rules::Item;
+use rules::Key;
 use rules::Resting;
 use rules::Thumb;
 ghost use mathlib.Core.Path.{_≡_};
 ghost use mathlib.Core.List.{_++_};
-ghost use Rattle.rules.specs.ZeroDelay.{sign-unless-0, mark-word, sign-of, signs, shown, sent};
-ghost use Rattle.preview.specs.Views.{listed, word-in, sign-list, packed, Holds, Sends};
+ghost use Rattle.rules.specs.ZeroDelay.{sign-unless-0, mark-word, character, sign-of, signs, shown, sent};
+ghost use Rattle.rules.specs.declared.Face.the-variants.{Plain};
+ghost use Rattle.preview.specs.Views.{listed, word-in, shown-list, put-before, behind-first, sign-list, packed, Holds, Sends};
 
 // The items that a step commits, in order.
 pub enum Items {
@@ -15,18 +17,25 @@ pub enum Items {
     Two(Item, Item),
 }
 
-// Up to three signs as words, in order: a character's code point, 1 for the left mark, 2 for the right one. They are packed to
+// Up to four signs as words, in order: a character's code point, 1 for the left mark, 2 for the right one. They are packed to
 // the front, 0 behind the last.
 pub struct Signs {
     pub first: u16,
     pub second: u16,
     pub third: u16,
+    pub fourth: u16,
 }
 
-// What a step sends: a backspace or none, then signs.
+// What a step sends: so many backspaces, then signs.
 pub struct Sendings {
-    pub backspace: bool,
+    pub backspaces: u8,
     pub signs: Signs,
+}
+
+// What is shown while one or two characters wait: their words in order, 0 for none.
+struct Shown {
+    first: u16,
+    second: u16,
 }
 
 fn mark_word(thumb: Thumb) -> u16
@@ -45,6 +54,7 @@ pub fn word_in(table: &[[u16; 3]; 31], item: Item) -> u16
     match item {
         Item::Character(key, face) => layout::code_point_in(table, key, face),
         Item::Mark(thumb) => mark_word(thumb),
+        Item::Together(_, _, c) => c,
     }
 }
 
@@ -56,78 +66,145 @@ pub fn word(item: Item) -> u16
     word_in(&table, item)
 }
 
-// The character that is shown while a resting state waits, 0 for none.
-fn shown_word(resting: Resting) -> u16
-    ensures { λ r. ⌜ sign-unless-0 r ≡ shown resting ⌝ }
+// One character is shown, by its key and face.
+fn shows_one(key: Key, face: Face) -> Shown
+    ensures { λ r. ⌜ shown-list r ≡ character key face ⌝ }
+{
+    Shown {
+        first: layout::code_point(key, face),
+        second: 0,
+    }
+}
+
+// Two letters are shown, both plain.
+fn shows_two(key: Key, second: Key) -> Shown
+    ensures { λ r. ⌜ shown-list r ≡ (character key Plain ++ character second Plain) ⌝ }
+{
+    Shown {
+        first: layout::code_point(key, Face::Plain),
+        second: layout::code_point(second, Face::Plain),
+    }
+}
+
+fn shows_nothing() -> Shown
+    ensures { λ r. ⌜ r ≡ record { first = 0; second = 0 } ⌝ }
+{
+    Shown {
+        first: 0,
+        second: 0,
+    }
+}
+
+// What is shown while a resting state waits.
+fn shown_words(resting: Resting) -> Shown
+    ensures { λ r. ⌜ shown-list r ≡ shown resting ⌝ }
 {
     match resting {
-        Resting::S1 => 0,
-        Resting::S2(key, _) => layout::code_point(key, Face::Plain),
-        Resting::S3(_, _) => 0,
-        Resting::S4(key, _, _, _) => layout::code_point(key, Face::Plain),
-        Resting::S5(thumb, _, key, _) => layout::code_point(key, Face::With(thumb)),
-        Resting::S6(thumb, _, key, _, _) => layout::code_point(key, Face::With(thumb)),
+        Resting::S1 => shows_nothing(),
+        Resting::S2(key, _) => shows_one(key, Face::Plain),
+        Resting::S3(_, _) => shows_nothing(),
+        Resting::S4(key, _, _, _) => shows_one(key, Face::Plain),
+        Resting::S5(thumb, _, key, _) => shows_one(key, Face::With(thumb)),
+        Resting::S6(thumb, _, key, _, _) => shows_one(key, Face::With(thumb)),
+        Resting::S7(key, _, second, _) => shows_two(key, second),
+        Resting::S8(key, _, second, _, _) => shows_two(key, second),
     }
 }
 
-// Three words in their places.
-fn in_places(first: u16, second: u16, third: u16) -> Signs
-    ensures { λ r. ⌜ r ≡ record { first = first; second = second; third = third } ⌝ }
+// A word in front of up to three signs; 0 is no sign.
+fn put_before(word: u16, q: Signs) -> Signs
+    ensures { λ r. ⌜ r ≡ put-before word q ⌝ }
+{
+    if word == 0 {
+        return q;
+    }
+    Signs {
+        first: word,
+        second: q.first,
+        third: q.second,
+        fourth: q.third,
+    }
+}
+
+// The signs behind the first.
+fn behind_first(q: Signs) -> Signs
+    ensures { λ r. ⌜ r ≡ behind-first q ⌝ }
 {
     Signs {
-        first: first,
-        second: second,
-        third: third,
+        first: q.second,
+        second: q.third,
+        third: q.fourth,
+        fourth: 0,
     }
 }
 
-// Three words, of which 0 is no sign, as signs.
-fn packed(first: u16, second: u16, third: u16) -> Signs
-    ensures { λ r. ⌜ Holds r (sign-unless-0 first ++ sign-unless-0 second ++ sign-unless-0 third) ⌝ }
+// What is shown, as signs.
+fn shown_signs(shown: Shown) -> Signs
+    ensures { λ r. ⌜ Holds r (shown-list shown) ⌝ }
 {
-    if first == 0 {
-        if second == 0 {
-            return in_places(third, 0, 0);
-        }
-        return in_places(second, third, 0);
-    }
-    if second == 0 {
-        return in_places(first, third, 0);
-    }
-    in_places(first, second, third)
+    let none = Signs {
+        first: 0,
+        second: 0,
+        third: 0,
+        fourth: 0,
+    };
+    put_before(shown.first, put_before(shown.second, none))
 }
 
 // The signs of a step: those of its items, then what is shown after it.
 fn step_signs(items: Items, after: Resting) -> Signs
     ensures { λ r. ⌜ Holds r (signs (listed items) ++ shown after) ⌝ }
 {
-    let last = shown_word(after);
+    let last = shown_signs(shown_words(after));
     match items {
-        Items::None => packed(0, 0, last),
-        Items::One(item) => packed(word(item), 0, last),
-        Items::Two(item, other) => packed(word(item), word(other), last),
+        Items::None => last,
+        Items::One(item) => put_before(word(item), last),
+        Items::Two(item, other) => put_before(word(item), put_before(word(other), last)),
     }
 }
 
 // What is sent where p was shown (0 for nothing) and the signs q follow: a p that q begins with stays, any other is taken back.
-fn instead_of(p: u16, q: Signs) -> Sendings
+fn instead_of_one(p: u16, q: Signs) -> Sendings
     requires { ⌜ q ≡ packed (sign-list q) ⌝ }
     ensures { λ r. ⌜ Sends r (sent (sign-unless-0 p) (sign-list q)) ⌝ }
 {
     if p == 0 {
         return Sendings {
-            backspace: false,
+            backspaces: 0,
             signs: q,
         };
     }
     if p == q.first {
         return Sendings {
-            backspace: false,
-            signs: in_places(q.second, q.third, 0),
+            backspaces: 0,
+            signs: behind_first(q),
         };
     }
     Sendings {
-        backspace: true,
+        backspaces: 1,
+        signs: q,
+    }
+}
+
+// The same where up to two were shown: if the first does not stay, both are taken back.
+fn instead_of(p: Shown, q: Signs) -> Sendings
+    requires { ⌜ q ≡ packed (sign-list q) ⌝ }
+    ensures { λ r. ⌜ Sends r (sent (shown-list p) (sign-list q)) ⌝ }
+{
+    if p.first == 0 {
+        return instead_of_one(p.second, q);
+    }
+    if p.first == q.first {
+        return instead_of_one(p.second, behind_first(q));
+    }
+    if p.second == 0 {
+        return Sendings {
+            backspaces: 1,
+            signs: q,
+        };
+    }
+    Sendings {
+        backspaces: 2,
         signs: q,
     }
 }
@@ -136,5 +213,5 @@ fn instead_of(p: u16, q: Signs) -> Sendings
 pub fn sent(before: Resting, items: Items, after: Resting) -> Sendings
     ensures { λ r. ⌜ Sends r (sent (shown before) (signs (listed items) ++ shown after)) ⌝ }
 {
-    instead_of(shown_word(before), step_signs(items, after))
+    instead_of(shown_words(before), step_signs(items, after))
 }

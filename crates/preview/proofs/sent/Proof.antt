@@ -9,4 +9,4 @@ sent-spec =
     (λ c κs. tt)
     (λ c κs. tt)
     (λ c κs. let q = c .step-signs .ensures in rw (q .list) (q .form))
-    (λ c. rw (← c .before .before .shown-word .ensures, ← c .before .step-signs .ensures .list) (c .instead-of .ensures)))
+    (λ c. rw (← c .before .before .shown-words .ensures, ← c .before .step-signs .ensures .list) (c .instead-of .ensures)))

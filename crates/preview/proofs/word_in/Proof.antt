@@ -11,5 +11,7 @@ word-in-spec =
     (λ c κs. tt)
     (λ c. search needs)
     (λ c κs. tt)
+    (λ c. search needs)
     (λ c. rw (c .before .before .item .given .1, ← c .code-point-in .ensures))
-    (λ c. rw (c .before .before .item2 .given .1, ← c .mark-word .ensures)))
+    (λ c. rw (c .before .before .item2 .given .1, ← c .mark-word .ensures))
+    (λ c. rw (c .before .item3 .given .1)))
