@@ -1,4 +1,6 @@
-// What a rule can do: commit nothing, a character, a mark or both, and leave a state. Key is a character key, thumb a thumb.
+// What a rule can do: commit nothing, a character, a mark, both, two characters or that of a pair, and leave a state. Key is a character
+// key, second another, thumb a thumb.
+use pairs::pair_character;
 use preview::Items;
 use rules::Face;
 use rules::Item;
@@ -9,8 +11,9 @@ use rules::Thumb;
 ghost use mathlib.Core.Path.{_≡_};
 ghost use mathlib.Core.List.{_++_};
 ghost use lib.Dec.{eqb};
-ghost use Rattle.rules.specs.OneEvent.{_leaving_, nothing, mark, plain, chord, same-thumb};
+ghost use Rattle.rules.specs.OneEvent.{_leaving_, nothing, mark, plain, chord, together, same-thumb};
 ghost use Rattle.rules.specs.declared.Resting.the-variants.{S1};
+ghost use Rattle.pairs.specs.Lent.{of-list};
 ghost use Rattle.effects.specs.Views.{done};
 
 // What a rule does: the items that it commits, and the state that it leaves.
@@ -95,4 +98,27 @@ pub fn commits_both(s: Settings, thumb: Thumb, key: Key) -> Effect
         };
     }
     commits_plain(key, Resting::S1)
+}
+
+// M alone, then K alone.
+pub fn commits_two(key: Key, second: Key, resting: Resting) -> Effect
+    ensures { λ r. ⌜ done r ≡ ((plain key ++ plain second) leaving resting) ⌝ }
+{
+    Effect {
+        items: Items::Two(
+            Item::Character(key, Face::Plain),
+            Item::Character(second, Face::Plain),
+        ),
+        resting: resting,
+    }
+}
+
+// The character that the list gives M and K is committed.
+pub fn commits_pair(list: &[u32], key: Key, second: Key, resting: Resting) -> Effect
+    ensures { λ r. ⌜ done r ≡ (together (of-list (now (list .entry))) key second leaving resting) ⌝ }
+{
+    Effect {
+        items: Items::One(Item::Together(key, second, pair_character(list, key, second))),
+        resting: resting,
+    }
 }

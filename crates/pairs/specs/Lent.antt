@@ -19,6 +19,10 @@ pairs-in (w ∷ l) = pair-in w ∷ pairs-in l
 abbrev pub lent : List ℕ → Times → Lent
 lent l t = record { pairs = pairs-in l; t-s = t .ts; n = t .n }
 
+-- a list alone, for what T_s and N have no part in
+abbrev pub of-list : List ℕ → Lent
+of-list l = record { pairs = pairs-in l; t-s = 0; n = 0 }
+
 -- what the answer of a lookup says
 abbrev pub paired : Paired → Option ℕ
 paired paired-as.None = none
