@@ -1,1 +1,2 @@
+pub mod ListAlone
 pub mod Meant

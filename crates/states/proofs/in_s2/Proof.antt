@@ -1,5 +1,4 @@
 -- `states::in_s2` meets its contract.
-use borrow.Author.Needs.{needs}
 use Rattle.states.proofs.Meant.{meant-1, meant-2, meant-3, meant-4, meant-5, meant-tick}
 use Rattle.states.proofs.in_s2.Statement.{statement}
 use Rattle.states.proofs.in_s2.Tie as tie
@@ -17,31 +16,42 @@ in-s2-spec =
     (λ c κs. tt)
     (λ c κs. tt)
     (λ c κs. tt)
-    (λ c. rw (meant-1 _ _ (c .before .match .keys1), ← c .commits-plain .ensures))
+    (λ c κs. tt)
+    (λ c κs. tt)
+    (λ c.
+    rw (
+      meant-1 _ _ (c .before .before .before .match .keys1),
+      ← c .before .before .is-pair .ensures,
+      c .before .if1 .taken,
+      ← c .goes-to .ensures,
+    ))
+    (λ c.
+    rw (
+      meant-1 _ _ (c .before .before .before .match .keys1),
+      ← c .before .before .is-pair .ensures,
+      c .before .if1 .left,
+      ← c .commits-plain .ensures,
+    ))
     (λ c.
     rw (
       meant-2 _ _ (c .before .before .before .match .keys2),
       ← c .before .before .same-key .ensures,
-      c .before .if1 .taken,
+      c .before .if2 .taken,
       ← c .commits-plain2 .ensures,
     ))
     (λ c.
     rw (
       meant-2 _ _ (c .before .before .before .match .keys2),
       ← c .before .before .same-key .ensures,
-      c .before .if1 .left,
-      ← c .goes-to .ensures,
+      c .before .if2 .left,
+      ← c .goes-to2 .ensures,
     ))
     (λ c.
     rw (
       meant-3 _ _ (c .before .before .match .keys3),
       ← c .before .thumb-of .ensures,
-      ← c .goes-to2 .ensures,
+      ← c .goes-to3 .ensures,
     ))
-    (λ c. rw (meant-4 _ _ (c .before .match .keys4), ← c .goes-to3 .ensures))
+    (λ c. rw (meant-4 _ _ (c .before .match .keys4), ← c .goes-to4 .ensures))
     (λ c. rw (meant-5 _ _ (c .before .match .keys5), ← c .commits-plain3 .ensures))
-    (λ c.
-    rw (
-      meant-tick _ _ (c .before .match .rest),
-      ← c .goes-to4 .ensures,
-    )))
+    (λ c. rw (meant-tick _ _ (c .before .match .rest), ← c .goes-to5 .ensures)))

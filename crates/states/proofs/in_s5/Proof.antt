@@ -1,5 +1,4 @@
 -- `states::in_s5` meets its contract.
-use borrow.Author.Needs.{needs}
 use Rattle.states.proofs.Meant.{meant-1, meant-2, meant-3, meant-4, meant-5, meant-tick}
 use Rattle.states.proofs.in_s5.Statement.{statement}
 use Rattle.states.proofs.in_s5.Tie as tie

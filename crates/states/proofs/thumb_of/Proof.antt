@@ -1,5 +1,4 @@
 -- `states::thumb_of` meets its contract.
-use borrow.Author.Needs.{needs}
 use mathlib.Core.Path.{sym, _∙_}
 use Rattle.rules.specs.OneEvent.{same-key}
 use Rattle.states.proofs.thumb_of.Statement.{statement}
