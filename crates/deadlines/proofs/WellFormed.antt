@@ -1,5 +1,7 @@
 -- A machine is well formed, one state at a time.
-use mathlib.Core.Path.{_≡_, refl}
+use Prim.Native.Nat.{ℕ}
+use mathlib.Core.List.{List}
+use mathlib.Core.Path.{_≡_, refl, sym, _∙_}
 use mathlib.Core.Bool.{Bool, true, false, _&&_, and-true, and-false}
 use native.Mathlib.Omega.{arith}
 use lib.Dec.{leb}
@@ -12,6 +14,8 @@ use Rattle.rules.specs.declared.Stamp.{Stamp}
 use Rattle.rules.specs.declared.Resting.{Resting}
 use Rattle.rules.specs.declared.Resting.the-variants.{S1, S2, S3, S4, S5, S6, S7, S8}
 use Rattle.rules.specs.declared.Machine.{Machine}
+use Rattle.pairs.specs.Lent.{of-list, lent}
+use Rattle.pairs.specs.declared.Times.{Times}
 use Rattle.deadlines.specs.ByState.{in-turn, four-in-turn, two-letters, rests-well}
 
 -- Tests of stamps a and b, and of a, b and c, against each other and against the last stamp z; k and p stand for the others.
@@ -87,3 +91,7 @@ well-formed-by-state g x =
     rw (← by-state g (x .last) (x .resting))
     (in-code (in-range (x .settings)) (keys-below (x .resting)) (stamps-by (x .last) (x .resting))
     (at-or-before (x .last) (at largest-stamp)) (in-order (x .resting)) (held-formed (x .held)) (pair-lent g (x .resting)))
+
+-- T_s and N have no part in it
+pub formed-by-list : (l : List ℕ) (t : Times) (x : Machine) → well-formed (of-list l) x ≡ well-formed (lent l t) x
+formed-by-list l t x = well-formed-by-state (of-list l) x ∙ sym (well-formed-by-state (lent l t) x)

@@ -37,8 +37,7 @@ ghost use Rattle.rules.specs.Pairs.{alone};
 ghost use Rattle.rules.specs.States.{well-formed};
 ghost use Rattle.rules.specs.OneEvent.{due-by};
 ghost use Rattle.rules.specs.Distance.{at-stamp, asking-with, asking};
-ghost use Rattle.pairs.specs.Lent.{pairs-in, lent};
-ghost use Rattle.pairs.specs.declared.Times as lent-times;
+ghost use Rattle.pairs.specs.Lent.{pairs-in, lent, of-list};
 ghost use Rattle.deadlines.specs.Views.{when, asked};
 ghost use Rattle.deadlines.specs.ByState.{in-turn, four-in-turn, two-letters, rests-well};
 ghost use Rattle.deadlines.specs.Capped.{until-S2, until-S3, until-S4, until-S5, until-S6, until-S7, until-S8};
@@ -144,7 +143,7 @@ fn rests_well(list: &[u32], last: Stamp, resting: Resting) -> bool
 
 // T_s and N have no part in it.
 pub fn well_formed(list: &[u32], machine: Machine) -> bool
-    ensures { λ r. ⌜ ((times : lent-times.Times) → r ≡ well-formed (lent (now (list .entry)) times) machine) ⌝ }
+    ensures { λ r. ⌜ r ≡ well-formed (of-list (now (list .entry))) machine ⌝ }
 {
     let s = machine.settings;
     let resting = machine.resting;

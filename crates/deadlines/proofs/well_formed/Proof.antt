@@ -9,9 +9,9 @@ well-formed-spec =
     tie.close
     (tie.spec
     (λ c κs. tt)
-    (λ c times. rw (well-formed-by-state _ _, failed (c .before .in-range .ensures) (c .if1 .taken)))
+    (λ c. rw (well-formed-by-state _ _, failed (c .before .in-range .ensures) (c .if1 .taken)))
     (λ c κs. tt)
-    (λ c times.
+    (λ c.
     let p1 = c .before .before in
     rw (
       well-formed-by-state _ _,
@@ -19,7 +19,7 @@ well-formed-spec =
       failed (c .before .at-or-before .ensures) (c .if2 .taken),
     ))
     (λ c κs. tt)
-    (λ c times.
+    (λ c.
     let p2 = c .before .before in
     let p1 = p2 .before .before in
     rw (
@@ -29,7 +29,7 @@ well-formed-spec =
       failed (c .before .held-formed .ensures) (c .if3 .taken),
     ))
     (λ c κs. tt)
-    (λ c times.
+    (λ c.
     let p3 = c .before in
     let p2 = p3 .before .before in
     let p1 = p2 .before .before in
