@@ -44,7 +44,7 @@ module _ (f s c : ℕ) (f-below : f < 31) (s-below : s < 31) (c-below : c ≤ 0x
   small : f * 16_777_216 + s * 65_536 + c < 4_294_967_296
   small = omega arith
 
-  on-top : (f * 16_777_216 + s * 65_536 + c) / 16_777_216 ≡ f
+  on-top : (f * 16_777_216 + s * 65_536 + c) / 16_777_216 % 256 ≡ f
   on-top = omega arith
 
   between : (f * 16_777_216 + s * 65_536 + c) / 65_536 % 256 ≡ s

@@ -10,7 +10,7 @@ use Rattle.pairs.specs.declared.Paired.the-variants as paired-as
 
 -- bits 24 to 31, bits 16 to 23, bits 0 to 15
 abbrev pub pair-in : ℕ → Pair
-pair-in w = record { first = record { 0 = w / 16_777_216 }; second = record { 0 = w / 65_536 % 256 }; character = w % 65_536 }
+pair-in w = record { first = record { 0 = w / 16_777_216 % 256 }; second = record { 0 = w / 65_536 % 256 }; character = w % 65_536 }
 
 abbrev pub pairs-in : List ℕ → List Pair
 pairs-in [] = []
