@@ -7,6 +7,7 @@ use mathlib.Core.Option.{some}
 use Prim.Native.Nat.{ℕ}
 use native.Mathlib.Omega.{arith}
 use Rattle.rules.specs.Numbers.{in-range}
+use Rattle.rules.specs.Pairs.{Lent}
 use Rattle.rules.specs.States.{fresh, Opening, opening, opened}
 use Rattle.rules.specs.GivenBack.{Answer}
 use Rattle.rules.specs.Sequences.{after, along}
@@ -20,16 +21,17 @@ use Rattle.engine.specs.Views.{stepped}
 use Rattle.engine.specs.Calls.{Calls, no-more, call, CodeRun, last-machine, along-calls, OfTheCode}
 use Rattle.engine.specs.declared.Stepped.{Stepped}
 
-calls-after : {m : Machine} {es : List Event} {rs : List Stepped} → Calls m es rs → last-machine m rs ≡ after m es
-calls-after no-more = refl
-calls-after (call {es = es} h c) = calls-after c ∙ ap (λ (a : Answer). after (a .machine) es) (h .answer)
+module _ (g : Lent) where
+  calls-after : {m : Machine} {es : List Event} {rs : List Stepped} → Calls g m es rs → last-machine m rs ≡ after g m es
+  calls-after no-more = refl
+  calls-after (call {es = es} h c) = calls-after c ∙ ap (λ (a : Answer). after g (a .machine) es) (h .answer)
 
-calls-along : {X : Type 0} (f : Machine → Event → Answer → List X) {m : Machine} {es : List Event} {rs : List Stepped} → Calls m es rs
-    → along-calls f m es rs ≡ along f m es
-calls-along f no-more = refl
-calls-along f (call {m = m} {e = e} {r = r} {es = es} h c) =
-    ap (λ (l : List _). f m e (stepped r) ++ l) (calls-along f c)
-    ∙ ap (λ (a : Answer). f m e a ++ along f (a .machine) es) (h .answer)
+  calls-along : {X : Type 0} (f : Machine → Event → Answer → List X) {m : Machine} {es : List Event} {rs : List Stepped} → Calls g m es rs
+      → along-calls f m es rs ≡ along g f m es
+  calls-along f no-more = refl
+  calls-along f (call {m = m} {e = e} {r = r} {es = es} h c) =
+      ap (λ (l : List _). f m e (stepped r) ++ l) (calls-along f c)
+      ∙ ap (λ (a : Answer). f m e a ++ along g f (a .machine) es) (h .answer)
 
 -- what a machine that was opened is
 record FreshInRange (s : Settings) (m : Machine) : Type 0 where
@@ -45,12 +47,13 @@ open-fresh s m =
     record { in-range-s = w; is-fresh = cc })
     (λ _ h. absurd (let z : _≡_ {A = ℕ} 0 1 = ap (λ (o : Opening). o .number) h in omega arith))
 
-pub of-the-code : {s : Settings} {m : Machine} {es : List Event} {rs : List Stepped} → CodeRun s m es rs → OfTheCode s m es rs
-of-the-code {s} {m} {es} run =
+pub of-the-code : (g : Lent) {s : Settings} {m : Machine} {es : List Event} {rs : List Stepped} → CodeRun g s m es rs
+    → OfTheCode g s m es rs
+of-the-code g {s} {m} {es} run =
     let f = open-fresh s m (run .machine-opened) in
     record {
       settings-in-range = f .in-range-s;
-      same-machine = calls-after (run .calls) ∙ ap (λ (x : Machine). after x es) (f .is-fresh);
-      same-readings = λ g. calls-along g (run .calls) ∙ ap (λ (x : Machine). along g x es) (f .is-fresh);
-      demand-3-holds = demand-3 s (f .in-range-s) es;
+      same-machine = calls-after g (run .calls) ∙ ap (λ (x : Machine). after g x es) (f .is-fresh);
+      same-readings = λ read. calls-along g read (run .calls) ∙ ap (λ (x : Machine). along g read x es) (f .is-fresh);
+      demand-3-holds = demand-3 g s (f .in-range-s) es;
     }

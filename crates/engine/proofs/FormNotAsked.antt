@@ -1,26 +1,43 @@
--- At a machine that is well formed an event whose form is not asked is a step apart from what is sent.
+-- With a list that is accepted, at a machine that is well formed, an event for which neither is asked is a step apart from what is sent.
 use mathlib.Core.Path.{_≡_, refl}
-use mathlib.Core.Bool.{true, false}
+use mathlib.Core.Bool.{true, false, _&&_, and-eq-true-iff}
 use mathlib.Core.Option.{Option, none, some}
-use lib.Dec.{ltb, eqb}
-use Rattle.rules.specs.Numbers.{largest-stamp}
+use native.Mathlib.Omega.{arith}
+use lib.Dec.{ltb, leb, eqb}
+use lib.ListN.{length}
+use borrow.Author.Tests.{leb-true}
+use Rattle.rules.specs.Numbers.{within, largest-stamp}
+use Rattle.rules.specs.Pairs.{Lent, pairs-most, T-s-least, T-s-most, N-least, N-most, none-twice, each-good, lent-good}
 use Rattle.rules.specs.States.{well-formed}
-use Rattle.rules.specs.OneEvent.{settle, one-event}
-use Rattle.rules.specs.GivenBack.{Verdict, refused, accepted, input, too-many, judge-input, judge, answer, step}
+use Rattle.rules.specs.OneEvent.{one-event}
+use Rattle.rules.specs.GivenBack.{Verdict, refused, accepted, input, too-many, judge-input, judge, answer, step-with, step}
 use Rattle.rules.specs.declared.Stamp.{Stamp}
 use Rattle.rules.specs.declared.Machine.{Machine}
 use Rattle.rules.specs.declared.Event.{Event}
 use Rattle.rules.specs.declared.Input.{Input}
 use Rattle.rules.proofs.Choices.{both-ways}
-use Rattle.deadlines.proofs.Formed.{well-formed-deadline}
+use Rattle.rules.proofs.Late.{settle-once}
+use Rattle.deadlines.proofs.Formed.{LentHeld, well-formed-deadline}
 use Rattle.engine.specs.Views.{apart-from-sent}
 use Rattle.engine.specs.FormNotAsked.{judge-event, one-event-at-most, by-verdict, take-formed, AsStep}
 
 -- no sum stops short
-pub formed-one-event : (m : Machine) (now : Stamp) (i : Input) → well-formed m ≡ true
-    → one-event-at-most (m .settings) now (m .resting) i ≡ one-event (m .settings) now (m .resting) i
-unfolding one-event settle one-event-at-most
-formed-one-event m now i w = rw (well-formed-deadline m w)
+pub formed-one-event : (g : Lent) → LentHeld g → (m : Machine) (now : Stamp) (i : Input) → well-formed g m ≡ true
+    → one-event-at-most g (m .settings) now (m .resting) i ≡ one-event g (m .settings) now (m .resting) i
+unfolding one-event one-event-at-most
+formed-one-event g held m now i w = rw (settle-once g (m .settings) now (m .resting), well-formed-deadline g held m w)
+
+-- T_s and N that are accepted are numbers of two bytes and of one
+good-held : (g : Lent) → lent-good g ≡ true → LentHeld g
+unfolding lent-good
+good-held g e =
+    let lists = leb (length (g .pairs)) pairs-most && none-twice (g .pairs) && each-good (g .pairs) in
+    let t-s-in = within T-s-least T-s-most (g .t-s) in
+    let all = and-eq-true-iff (lists && t-s-in) (within N-least N-most (g .n)) .0 e in
+    let t-s = and-eq-true-iff lists t-s-in .0 (all .0) .1 in
+    let t-s-most = leb-true (g .t-s) T-s-most (and-eq-true-iff (leb T-s-least (g .t-s)) (leb (g .t-s) T-s-most) .0 t-s .1) in
+    let n-most = leb-true (g .n) N-most (and-eq-true-iff (leb N-least (g .n)) (leb (g .n) N-most) .0 (all .1) .1) in
+    record { t-s = omega (arith, t-s-most); n = omega (arith, n-most) }
 
 -- a refusal has another number than 0
 abbrev Not0 : Verdict → Type 0
@@ -33,11 +50,12 @@ not-0 m e (some i) =
     both-ways Not0 (ltb largest-stamp (e .stamp .0)) refl
     (both-ways Not0 (ltb (e .stamp .0) (m .last .0)) refl (both-ways Not0 (too-many m e) refl tt))
 
-same-answer : (m : Machine) (now : Stamp) (v : Verdict) → well-formed m ≡ true → Not0 v
-    → by-verdict m now v ≡ apart-from-sent (answer m now v)
-same-answer m now (refused n) w z = rw z
-same-answer m now (accepted i) w z = rw (formed-one-event m now i w)
+same-answer : (g : Lent) → LentHeld g → (m : Machine) (now : Stamp) (v : Verdict) → well-formed g m ≡ true → Not0 v
+    → by-verdict g m now v ≡ apart-from-sent (answer g m now v)
+same-answer g held m now (refused n) w z = rw z
+same-answer g held m now (accepted i) w z = rw (formed-one-event g held m now i w)
 
 pub as-step : AsStep
-unfolding take-formed step judge judge-event
-as-step m e w = rw w (same-answer m (e .stamp) (judge-event m e) w (not-0 m e (input (e .kind) (e .key))))
+unfolding take-formed step step-with judge judge-event
+as-step g m e good w =
+    rw (good, w) (same-answer g (good-held g good) m (e .stamp) (judge-event m e) w (not-0 m e (input (e .kind) (e .key))))

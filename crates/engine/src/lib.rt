@@ -1,5 +1,5 @@
-// One event at a machine: whether it is refused, what it commits and sends, and the machine after it. A machine is opened by
-// `rules::Machine::open`; what else a caller asks of one is passed on from the crates below.
+// One event at a machine, with what is lent (9/12): whether it is refused, what it commits and sends, and the machine after it. A
+// machine is opened by `rules::Machine::open`; what else a caller asks of one is passed on from the crates below.
 mod by_state;
 mod holding;
 
@@ -12,6 +12,8 @@ use effects::Effect;
 use holding::acting;
 use holding::held_after;
 use holding::too_many;
+pub use pairs::Times;
+pub use pairs::lent_good;
 pub use preview::Items;
 pub use preview::Sendings;
 pub use preview::Signs;
@@ -33,7 +35,8 @@ ghost use mathlib.Core.Bool.{true};
 ghost use mathlib.Core.List.{[]};
 ghost use Rattle.rules.specs.States.{well-formed};
 ghost use Rattle.rules.specs.OneEvent.{one-event};
-ghost use Rattle.rules.specs.GivenBack.{acts-as, held-after, judge-room, judge-stamp, judge, refusal, acceptance, step};
+ghost use Rattle.rules.specs.GivenBack.{acts-as, held-after, judge-room, judge-stamp, judge, refusal, acceptance, step-with, step};
+ghost use Rattle.pairs.specs.Lent.{lent, of-list};
 ghost use Rattle.preview.specs.Views.{Sends};
 ghost use Rattle.rules.specs.declared.Input.{Input};
 ghost use Rattle.effects.specs.Views.{done};
@@ -112,42 +115,51 @@ fn judge_event(machine: Machine, event: Event) -> u8
     3
 }
 
-// All checks: whether the machine is well formed comes first.
-fn judge(machine: Machine, event: Event) -> u8
-    ensures { λ r. ⌜ judged r (acts-as (machine .held) (meant (event .kind) (event .key))) ≡ judge machine event ⌝ }
+// All checks behind 12: whether the machine is well formed comes first. T_s and N have no part in them.
+fn judge(list: &[u32], machine: Machine, event: Event) -> u8
+    ensures { λ r. ⌜ judged r (acts-as (machine .held) (meant (event .kind) (event .key))) ≡
+        judge (of-list (now (list .entry))) machine event ⌝ }
 {
-    if !well_formed(machine) {
+    if !well_formed(list, machine) {
         return 2;
     }
     judge_event(machine, event)
 }
 
 // First what is late, then the event acts. What is late leaves S1, which commits nothing, so its items are all.
-fn one_event(s: Settings, now: Stamp, resting: Resting, kind: u8, k: Key) -> Effect
-    ensures { λ r. ⌜ done r ≡ one-event-at-most s now resting (meant kind k) ⌝ }
+fn one_event(
+    list: &[u32],
+    times: Times,
+    s: Settings,
+    now: Stamp,
+    resting: Resting,
+    kind: u8,
+    n: Key,
+) -> Effect
+    ensures { λ r. ⌜ done r ≡ one-event-at-most (lent (list .entry .now) times) s now resting (meant kind n) ⌝ }
 {
-    if is_due(s, now, resting) {
-        let first = late(s, resting);
+    if is_due(list, times, s, now, resting) {
+        let first = late(list, s, resting);
         let items = first.items;
-        let second = in_s1(now, kind, k);
+        let second = in_s1(now, kind, n);
         let next = second.resting;
         return Effect {
             items: items,
             resting: next,
         };
     }
-    act(s, now, resting, kind, k)
+    act(list, times, s, now, resting, kind, n)
 }
 
 // What an accepted event commits, and the machine after it, by the kind that it acts as.
-fn carry_out(machine: Machine, now: Stamp, kind: u8, k: Key) -> Change
-    ensures { λ r. ⌜ Changes r machine now (held-after (machine .held) (meant kind k))
-        (one-event-at-most (machine .settings) now (machine .resting) (meant kind k)) ⌝ }
+fn carry_out(list: &[u32], times: Times, machine: Machine, now: Stamp, kind: u8, n: Key) -> Change
+    ensures { λ r. ⌜ Changes r machine now (held-after (machine .held) (meant kind n))
+        (one-event-at-most (lent (list .entry .now) times) (machine .settings) now (machine .resting) (meant kind n)) ⌝ }
 {
     let held = machine.held;
     let s = machine.settings;
     let resting = machine.resting;
-    let effect = one_event(s, now, resting, kind, k);
+    let effect = one_event(list, times, s, now, resting, kind, n);
     let committed = effect.items;
     let next = effect.resting;
     Change {
@@ -156,18 +168,18 @@ fn carry_out(machine: Machine, now: Stamp, kind: u8, k: Key) -> Change
             settings: s,
             resting: next,
             last: now,
-            held: held_after(held, kind, k),
+            held: held_after(held, kind, n),
         },
     }
 }
 
-fn accepted(machine: Machine, now: Stamp, kind: u8, k: Key) -> Stepped
-    requires { ⌜ well-formed machine ≡ true ⌝ }
-    ensures { λ r. ⌜ Gives r (acceptance machine now (held-after (machine .held) (meant kind k))
-        (one-event (machine .settings) now (machine .resting) (meant kind k))) ⌝ }
+fn accepted(list: &[u32], times: Times, machine: Machine, now: Stamp, kind: u8, n: Key) -> Stepped
+    requires { ⌜ well-formed (lent (list .now) times) machine ≡ true ⌝ }
+    ensures { λ r. ⌜ Gives r (acceptance machine now (held-after (machine .held) (meant kind n))
+        (one-event (lent (list .entry .now) times) (machine .settings) now (machine .resting) (meant kind n))) ⌝ }
 {
     let resting = machine.resting;
-    let done = carry_out(machine, now, kind, k);
+    let done = carry_out(list, times, machine, now, kind, n);
     let items = done.items;
     let after = done.machine;
     let next = after.resting;
@@ -183,11 +195,12 @@ fn nothing_sent() -> Sendings
     ensures { λ r. ⌜ Sends r [] ⌝ }
 {
     Sendings {
-        backspace: false,
+        backspaces: 0,
         signs: Signs {
             first: 0,
             second: 0,
             third: 0,
+            fourth: 0,
         },
     }
 }
@@ -205,23 +218,41 @@ fn refused(machine: Machine, number: u8) -> Stepped
     }
 }
 
-// One event of any kind, key and stamp, at any machine.
-pub fn step(machine: Machine, event: Event) -> Stepped
-    ensures { λ r. ⌜ Gives r (step machine event) ⌝ }
+// One event of any kind, key and stamp, at any machine, whether what is lent is accepted or not.
+fn step_with(list: &[u32], times: Times, machine: Machine, event: Event) -> Stepped
+    ensures { λ r. ⌜ Gives r (step-with (lent (now (list .entry)) times) machine event) ⌝ }
 {
     let now = event.stamp;
     let key = event.key;
-    let number = judge(machine, event);
+    let number = judge(list, machine, event);
     if number != 0 {
         return refused(machine, number);
     }
     let held = machine.held;
-    accepted(machine, now, acting(held, event.kind, key), key)
+    accepted(
+        list,
+        times,
+        machine,
+        now,
+        acting(held, event.kind, key),
+        key,
+    )
 }
 
-// An event apart from what is sent, for a caller who knows that the machine is well formed: it is not asked again.
-pub fn take_formed(machine: Machine, event: Event) -> Taken
-    ensures { λ r. ⌜ taken r ≡ take-formed machine event ⌝ }
+// One event of any kind, key and stamp, at any machine, with any list, T_s and N: 12 comes before anything else.
+pub fn step(list: &[u32], times: Times, machine: Machine, event: Event) -> Stepped
+    ensures { λ r. ⌜ Gives r (step (lent (now (list .entry)) times) machine event) ⌝ }
+{
+    if !lent_good(list, times) {
+        return refused(machine, 12);
+    }
+    step_with(list, times, machine, event)
+}
+
+// An event apart from what is sent, for a caller who knows that what is lent is accepted and that the machine is well formed: neither
+// is asked again.
+pub fn take_formed(list: &[u32], times: Times, machine: Machine, event: Event) -> Taken
+    ensures { λ r. ⌜ taken r ≡ take-formed (lent (now (list .entry)) times) machine event ⌝ }
 {
     let now = event.stamp;
     let key = event.key;
@@ -233,7 +264,7 @@ pub fn take_formed(machine: Machine, event: Event) -> Taken
     let resting = machine.resting;
     let held = machine.held;
     let kind = acting(held, event.kind, key);
-    let effect = event_in(s, now, resting, kind, key);
+    let effect = event_in(list, times, s, now, resting, kind, key);
     let items = effect.items;
     let next = effect.resting;
     let after = Machine {

@@ -12,11 +12,11 @@ event-in-s4-spec =
     (λ c κs. tt)
     (λ c κs. tt)
     (λ c κs. tt)
-    (λ c.
+    (λ c g.
     let at-if = c .before .before in
-    when-due _ _ _ _ _ _ (sym (at-if .before .due-in-s4 .ensures) ∙ at-if .if1 .taken)
+    when-due g _ _ _ _ _ _ (sym (at-if .before .due-in-s4 .ensures) ∙ at-if .if1 .taken)
     (c .before .commits-chord .ensures)
     (c .then-in-s1 .ensures))
-    (λ c.
+    (λ c g.
     let at-if = c .before in
-    when-not-due _ _ _ _ _ (sym (at-if .before .due-in-s4 .ensures) ∙ at-if .if1 .left) (c .in-s4 .ensures)))
+    when-not-due g _ _ _ _ _ (sym (at-if .before .due-in-s4 .ensures) ∙ at-if .if1 .left) (c .in-s4 .ensures)))
