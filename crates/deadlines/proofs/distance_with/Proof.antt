@@ -24,6 +24,7 @@ distance-with-spec =
     let a = w .before .before .before .args in
     rw (
       well-formed-asking _ (record { t-s = omega arith; n = omega arith }) _ _ _
-          (passed (w .before .well-formed .ensures ∙ formed-by-list (a .list .now) (a .times) (a .machine)) (w .if1 .left)) (c .before .deadline .ensures),
+          (passed (w .before .well-formed .ensures ∙ formed-by-list (a .list .now) (a .times) (a .machine)) (w .if1 .left))
+          (c .before .deadline .ensures),
       ← c .at-stamp .ensures,
     )))

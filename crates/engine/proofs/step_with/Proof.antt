@@ -15,12 +15,16 @@ step-with-spec =
     (λ c.
     let at-if = c .before in
     let a = at-if .before .before .before .before .before .args in
-    rw (← judged-by-list (a .list .now) (a .times) (a .machine) (a .event) (at-if .before .judge .ensures), ne-eqb _ 0 (at-if .if1 .taken)) (c .refused .ensures))
+    rw (
+      ← judged-by-list (a .list .now) (a .times) (a .machine) (a .event) (at-if .before .judge .ensures),
+      ne-eqb _ 0 (at-if .if1 .taken),
+    ) (c .refused .ensures))
     (λ c κs. tt)
     (λ c κs.
     let at-if = c .before in
     let a = at-if .before .before .before .before .before .args in
-    accepts-well-formed _ _ _ _ _ (judged-by-list (a .list .now) (a .times) (a .machine) (a .event) (at-if .before .judge .ensures)) (at-if .if1 .left))
+    accepts-well-formed _ _ _ _ _
+    (judged-by-list (a .list .now) (a .times) (a .machine) (a .event) (at-if .before .judge .ensures)) (at-if .if1 .left))
     (λ c.
     let at-if = c .before .before in
     let a = at-if .before .before .before .before .before .args in

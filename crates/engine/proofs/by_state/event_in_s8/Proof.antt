@@ -23,4 +23,5 @@ event-in-s8-spec =
     let at-if = c .before in
     let a = at-if .before .before .before .args in
     when-not-due _ _ _ _ _ _ (sym (at-if .before .due-in-s8 .ensures) ∙ at-if .if1 .left)
-    (c .in-s8 .ensures ∙ in-S8-by-list (a .list .now) (a .times) (a .now) (a .key) (a .m) (a .s) (a .second) (a .k) (a .r) (meant (a .kind) (a .n)))))
+    (c .in-s8 .ensures ∙
+    in-S8-by-list (a .list .now) (a .times) (a .now) (a .key) (a .m) (a .s) (a .second) (a .k) (a .r) (meant (a .kind) (a .n)))))
