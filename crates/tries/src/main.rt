@@ -1,9 +1,10 @@
-// Runs the keystrokes of document 01 that are not among the proved ones, and prints what the engine answers: the number, the items
-// that are committed, what is sent, and how far the next deadline lies from the event's stamp. A backspace is written `<-`, a
-// mark `<L>` or `<R>`, an empty face `-`.
+// Runs the keystrokes of document 01 that are not among the proved ones, and some with two letters as a chord (9/12), and prints what
+// the engine answers: the number, the items that are committed, what is sent, and how far the next deadline lies from the event's
+// stamp. A backspace is written `<-`, a mark `<L>` or `<R>`, an empty face `-`.
 use engine::Asked;
 use engine::Items;
 use engine::Sendings;
+use engine::Times;
 use libc::STDOUT_FILENO;
 use rules::Event;
 use rules::Item;
@@ -64,31 +65,30 @@ fn say_sent(word: u16) {
     }
 }
 
+// The signs are packed to the front.
 fn sends_nothing(sent: Sendings) -> bool {
     let signs = sent.signs;
-    if sent.backspace {
+    if sent.backspaces != 0 {
         return false;
     }
-    if signs.first != 0 {
-        return false;
-    }
-    if signs.second != 0 {
-        return false;
-    }
-    signs.third == 0
+    signs.first == 0
 }
 
 fn say_sendings(sent: Sendings) {
     if sends_nothing(sent) {
         say(b" nothing");
     }
-    if sent.backspace {
+    if 0 < sent.backspaces {
+        say(b" <-");
+    }
+    if 1 < sent.backspaces {
         say(b" <-");
     }
     let signs = sent.signs;
     say_sent(signs.first);
     say_sent(signs.second);
     say_sent(signs.third);
+    say_sent(signs.fourth);
 }
 
 // How far a negative number lies below 0. (0 - n would not fit for the least of them.)
@@ -111,8 +111,9 @@ fn say_signed(n: i64) {
     }
 }
 
-fn say_distance(machine: Machine, now: Stamp) {
-    match engine::distance(machine, now) {
+fn say_distance(list: &[u32], times: Times, machine: Machine, now: Stamp) {
+    match engine::distance(list, times, machine, now) {
+        Asked::LentRefused => say(b"refused 12"),
         Asked::NotWellFormed => say(b"refused 2"),
         Asked::AboveLargest => say(b"refused 4"),
         Asked::BeforeLast => say(b"refused 5"),
@@ -122,17 +123,32 @@ fn say_distance(machine: Machine, now: Stamp) {
 }
 
 // How far a machine's deadline lies from a stamp, on a line.
-fn ask(machine: Machine, stamp: u64) {
+fn ask_lent(list: &[u32], times: Times, machine: Machine, stamp: u64) {
     say(b"  asked @");
     say_number(stamp);
     say(b": ");
-    say_distance(machine, Stamp(stamp));
+    say_distance(list, times, machine, Stamp(stamp));
     say(b"\n");
 }
 
+// The same with a list of no pairs.
+fn ask(machine: Machine, stamp: u64) {
+    let none = [];
+    ask_lent(&none, Times { ts: 50, n: 1 }, machine, stamp);
+}
+
 // One event, with what it gave back on a line; the machine after it.
-fn event(machine: Machine, kind: u8, key: u8, stamp: u64) -> Machine {
+fn event_lent(
+    list: &[u32],
+    times: Times,
+    machine: Machine,
+    kind: u8,
+    key: u8,
+    stamp: u64,
+) -> Machine {
     let answer = engine::step(
+        list,
+        times,
         machine,
         Event {
             kind: kind,
@@ -156,9 +172,15 @@ fn event(machine: Machine, kind: u8, key: u8, stamp: u64) -> Machine {
     say(b", sends");
     say_sendings(sent);
     say(b", next ");
-    say_distance(after, Stamp(stamp));
+    say_distance(list, times, after, Stamp(stamp));
     say(b"\n");
     after
+}
+
+// The same with a list of no pairs.
+fn event(machine: Machine, kind: u8, key: u8, stamp: u64) -> Machine {
+    let none = [];
+    event_lent(&none, Times { ts: 50, n: 1 }, machine, kind, key, stamp)
 }
 
 // A machine that is not there is said so, and stands in as one that refuses everything.
@@ -298,6 +320,46 @@ fn seventh_key() {
     event(m, 1, 21, 30);
 }
 
+// The character that two letters give, as it is lent: key, key, character.
+const PAIR: u32 = 0x15_16_30E3;
+
+// T_s 60, N 50: the keys 21 and 22 are lent as a pair, ャ. Both plain letters are shown. Due at 100 they are the pair. With 21 up at 60,
+// 22 up at 73 leaves them the pair, at 74 parts them (L 60), and so does the deadline at 80. A third letter that is as near as the
+// two are to each other parts them.
+fn two_letters() {
+    let list = [PAIR];
+    let times = Times { ts: 60, n: 50 };
+    let m = open(100, 50, 60, 0);
+    let a = event_lent(&list, times, m, 1, 21, 0);
+    let a = event_lent(&list, times, a, 1, 22, 40);
+    ask_lent(&list, times, a, 100);
+    event_lent(&list, times, a, 6, 0, 100);
+    let b = event_lent(&list, times, a, 2, 21, 60);
+    event_lent(&list, times, b, 2, 22, 73);
+    event_lent(&list, times, b, 2, 22, 74);
+    event_lent(&list, times, b, 6, 0, 80);
+    event_lent(&list, times, a, 1, 23, 80);
+    event_lent(&list, times, a, 1, 23, 81);
+}
+
+// Lists that are not accepted, and T_s and N out of range: 12 before anything else, and a list that the waiting letters are no pair of.
+fn lent_refused() {
+    let m = open(100, 50, 50, 0);
+    let times = Times { ts: 60, n: 50 };
+    let twice = [PAIR, 0x16_15_3042];
+    event_lent(&twice, times, m, 1, 21, 0);
+    let itself = [0x15_15_3042];
+    event_lent(&itself, times, m, 7, 21, 0);
+    let surrogate = [0x15_16_D800];
+    ask_lent(&surrogate, times, m, 0);
+    let list = [PAIR];
+    event_lent(&list, Times { ts: 49, n: 50 }, m, 1, 21, 0);
+    event_lent(&list, Times { ts: 60, n: 100 }, m, 1, 21, 0);
+    let m = event_lent(&list, times, m, 1, 21, 0);
+    let m = event_lent(&list, times, m, 1, 22, 40);
+    event(m, 6, 0, 50);
+}
+
 fn main() {
     say(
         b"Kinds: 1 character down, 2 up, 3 thumb down, 4 up, 5 function, 6 tick. Thumbs: 0 left, 1 right.\n",
@@ -309,4 +371,6 @@ fn main() {
     overdue();
     repeats();
     seventh_key();
+    two_letters();
+    lent_refused();
 }
