@@ -1,13 +1,11 @@
 -- With a list that is accepted, at a machine that is well formed, an event for which neither is asked is a step apart from what is sent.
 use mathlib.Core.Path.{_≡_, refl}
-use mathlib.Core.Bool.{true, false, _&&_, and-eq-true-iff}
+use mathlib.Core.Bool.{true, false}
 use mathlib.Core.Option.{Option, none, some}
 use native.Mathlib.Omega.{arith}
-use lib.Dec.{ltb, leb, eqb}
-use lib.ListN.{length}
-use borrow.Author.Tests.{leb-true}
-use Rattle.rules.specs.Numbers.{within, largest-stamp}
-use Rattle.rules.specs.Pairs.{Lent, pairs-most, T-s-least, T-s-most, N-least, N-most, none-twice, each-good, lent-good}
+use lib.Dec.{ltb, eqb}
+use Rattle.rules.specs.Numbers.{largest-stamp}
+use Rattle.rules.specs.Pairs.{Lent, lent-good}
 use Rattle.rules.specs.States.{well-formed}
 use Rattle.rules.specs.OneEvent.{one-event}
 use Rattle.rules.specs.GivenBack.{Verdict, refused, accepted, input, too-many, judge-input, judge, answer, step-with, step}
@@ -16,6 +14,7 @@ use Rattle.rules.specs.declared.Machine.{Machine}
 use Rattle.rules.specs.declared.Event.{Event}
 use Rattle.rules.specs.declared.Input.{Input}
 use Rattle.rules.proofs.Choices.{both-ways}
+use Rattle.rules.proofs.Tests.{good-bounds}
 use Rattle.rules.proofs.Late.{settle-once}
 use Rattle.deadlines.proofs.Formed.{LentHeld, well-formed-deadline}
 use Rattle.engine.specs.Views.{apart-from-sent}
@@ -29,15 +28,9 @@ formed-one-event g held m now i w = rw (settle-once g (m .settings) now (m .rest
 
 -- T_s and N that are accepted are numbers of two bytes and of one
 good-held : (g : Lent) → lent-good g ≡ true → LentHeld g
-unfolding lent-good
 good-held g e =
-    let lists = leb (length (g .pairs)) pairs-most && none-twice (g .pairs) && each-good (g .pairs) in
-    let t-s-in = within T-s-least T-s-most (g .t-s) in
-    let all = and-eq-true-iff (lists && t-s-in) (within N-least N-most (g .n)) .0 e in
-    let t-s = and-eq-true-iff lists t-s-in .0 (all .0) .1 in
-    let t-s-most = leb-true (g .t-s) T-s-most (and-eq-true-iff (leb T-s-least (g .t-s)) (leb (g .t-s) T-s-most) .0 t-s .1) in
-    let n-most = leb-true (g .n) N-most (and-eq-true-iff (leb N-least (g .n)) (leb (g .n) N-most) .0 (all .1) .1) in
-    record { t-s = omega (arith, t-s-most); n = omega (arith, n-most) }
+    let b = good-bounds g e in
+    record { t-s = omega (arith, b .T-s-bounds .1); n = omega (arith, b .N-bounds .1) }
 
 -- a refusal has another number than 0
 abbrev Not0 : Verdict → Type 0
