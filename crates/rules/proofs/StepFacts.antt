@@ -125,7 +125,7 @@ late-few g s (S7 M m K k) = omega arith
 late-few g s (S8 M m K k r) = omega arith
 
 -- an event commits nothing behind a late line, and leaves one letter at most
-one-event-few : (g : Lent) (s : Settings) (now : Stamp) (y : Resting) (i : Input) → Few (one-event g s now y i)
+pub one-event-few : (g : Lent) (s : Settings) (now : Stamp) (y : Resting) (i : Input) → Few (one-event g s now y i)
 unfolding one-event
 one-event-few g s now y i =
     rw (settle-once g s now y)
