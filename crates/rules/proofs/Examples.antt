@@ -11,7 +11,7 @@ use Rattle.rules.specs.OneEvent.{mark, same-thumb, same-key, second-char
 use Rattle.rules.specs.ZeroDelay.{character, sent}
 use Rattle.rules.specs.GivenBack.{input, is-new, judge, step-with, step}
 use Rattle.rules.specs.Distance.{asking-with, asking}
-use Rattle.rules.specs.Examples.{ExamplesHold, SlipsHold, SlowHandsHold, HeldDownHold, TwoWaitHold, OneIsUpHold, LentDecidesHold, ByHandHold, OtherListHold, DistancesHold, NumbersHold}
+use Rattle.rules.specs.Examples.{ExamplesHold, SlipsHold, SlowHandsHold, HeldDownHold, TwoWaitHold, OneIsUpHold, LentDecidesHold, BesideAThumbHold, ByHandHold, OtherListHold, FormedByHandHold, DistancesHold, NumbersHold}
 
 pub examples-hold : ExamplesHold
 unfolding step step-with lent-good none-twice each-good in-some-pair alone pair-of judge is-new input well-formed is-held hold release how-many held-formed onesIn in-range one-event settle settle-in mark same-thumb same-key second-character-takes-thumb second-thumb-takes-character short-overlap sent character code-point table up A B FJ FL
@@ -41,6 +41,10 @@ pub lent-decides-hold : LentDecidesHold
 unfolding asking asking-with step step-with lent-good none-twice each-good in-some-pair alone pair-of judge is-new input well-formed is-held hold release how-many held-formed onesIn in-range one-event settle settle-in mark same-thumb same-key second-character-takes-thumb second-thumb-takes-character short-overlap sent character code-point table up A B FJ FL names is-of is-pair-character pair-good pair-stays short-pair short-of GN P
 lent-decides-hold = refl
 
+pub beside-a-thumb-hold : BesideAThumbHold
+unfolding step step-with lent-good none-twice each-good in-some-pair alone pair-of judge is-new input well-formed is-held hold release how-many held-formed onesIn in-range one-event settle settle-in mark same-thumb same-key second-character-takes-thumb second-thumb-takes-character short-overlap sent character code-point table up A B FJ FL names is-of is-pair-character pair-good pair-stays short-pair short-of GN P
+beside-a-thumb-hold = refl
+
 pub by-hand-hold : ByHandHold
 unfolding step step-with lent-good none-twice each-good in-some-pair alone pair-of judge is-new input well-formed is-held hold release how-many held-formed onesIn in-range one-event settle settle-in mark same-thumb same-key second-character-takes-thumb second-thumb-takes-character short-overlap sent character code-point table up A B FJ FL
 by-hand-hold = record { up-as-tick = refl; down-is-new = refl; down-refused = refl; repeat-accepted = refl }
@@ -48,6 +52,10 @@ by-hand-hold = record { up-as-tick = refl; down-is-new = refl; down-refused = re
 pub other-list-hold : OtherListHold
 unfolding step step-with lent-good none-twice each-good in-some-pair alone pair-of judge is-new input well-formed is-held hold release how-many held-formed onesIn in-range one-event settle settle-in mark same-thumb same-key second-character-takes-thumb second-thumb-takes-character short-overlap sent character code-point table up A B FJ FL names is-of is-pair-character pair-good pair-stays short-pair short-of GN P
 other-list-hold = record { its-list = refl; other-list = refl; no-list = refl }
+
+pub formed-by-hand-hold : FormedByHandHold
+unfolding step step-with lent-good none-twice each-good in-some-pair alone pair-of judge is-new input well-formed is-held hold release how-many held-formed onesIn in-range one-event settle settle-in mark same-thumb same-key second-character-takes-thumb second-thumb-takes-character short-overlap sent character code-point table up A B FJ FL names is-of is-pair-character pair-good pair-stays short-pair short-of GN P
+formed-by-hand-hold = refl
 
 pub distances-hold : DistancesHold
 unfolding asking asking-with step step-with lent-good none-twice each-good in-some-pair alone pair-of judge is-new input well-formed is-held hold release how-many held-formed onesIn in-range one-event settle settle-in mark same-thumb same-key second-character-takes-thumb second-thumb-takes-character short-overlap sent character code-point table up A B FJ FL

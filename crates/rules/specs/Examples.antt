@@ -21,7 +21,7 @@ use Rattle.rules.specs.declared.Thumb.{Thumb}
 use Rattle.rules.specs.declared.Thumb.the-variants.{Left, Right}
 use Rattle.rules.specs.declared.Settings.{Settings}
 use Rattle.rules.specs.declared.Resting.{Resting}
-use Rattle.rules.specs.declared.Resting.the-variants.{S1, S2, S3, S4, S6, S7, S8}
+use Rattle.rules.specs.declared.Resting.the-variants.{S1, S2, S3, S4, S5, S6, S7, S8}
 use Rattle.rules.specs.declared.Machine.{Machine}
 use Rattle.rules.specs.declared.Face.the-variants.{Plain, With}
 use Rattle.rules.specs.declared.Item.{Item}
@@ -269,7 +269,10 @@ two-wait =
     (thumb Right 60 ∷ text (か ∷ []) ∷ sent [] ∷ rests (S4 (key 24) (at 30) Right (at 60)) ∷ tick 90 ∷ text (か ∷ ざ ∷ []) ∷ []) ∷
     in-S7 "M up, a short overlap" (up 21 59 ∷ nothing ∷ sent [] ∷ rests-S8 21 0 24 30 59 ∷ []) ∷
     in-S7 "M up, no short overlap" (up 21 60 ∷ text (ヴ ∷ []) ∷ sent-ヴ [] ∷ rests S1 ∷ []) ∷
-    in-S7 "M up, T_s long" (up 21 130 ∷ text (ヴ ∷ []) ∷ rests S1 ∷ []) ∷
+    in-S7 "M up, late already" (up 21 130 ∷ text (ヴ ∷ []) ∷ rests S1 ∷ []) ∷
+    -- no overlap at all: S8 is due at once, so what is late comes before K's up
+    in-S7 "both up at K's press"
+    (up 21 30 ∷ rests-S8 21 0 24 30 30 ∷ asked 30 due-now ∷ up 24 30 ∷ text (か ∷ さ ∷ []) ∷ sent [] ∷ rests S1 ∷ []) ∷
     in-S7 "K up" (up 24 31 ∷ text (ヴ ∷ []) ∷ sent-ヴ [] ∷ rests S1 ∷ []) ∷
     in-S7 "a function key" (function 31 ∷ text (ヴ ∷ []) ∷ sent-ヴ [] ∷ rests S1 ∷ []) ∷
     in-S7 "a tick, a thumb up, repeats"
@@ -295,6 +298,14 @@ one-is-up =
     (down 21 0 ∷ down 24 30 ∷ up 21 59 ∷ up 24 78 ∷ text (ヴ ∷ []) ∷ sent-ヴ [] ∷ rests S1 ∷ []) ∷
     with-list "K up, L=60, short of it" (lent-with two-pairs 100 50) with-L-60
     (down 21 0 ∷ down 24 30 ∷ up 21 59 ∷ up 24 79 ∷ text (か ∷ さ ∷ []) ∷ sent [] ∷ rests S1 ∷ []) ∷
+    -- 100·30 is 60·50, which is not below it
+    with-list "K up, L=60, equal to it" (lent-with two-pairs 100 50) with-L-60
+    (down 21 0 ∷ down 24 31 ∷ up 21 61 ∷ rests-S8 21 0 24 31 61 ∷ up 24 81 ∷ text (ヴ ∷ []) ∷ rests S1 ∷ []) ∷
+    with-list "K up, by L and not by J" (lent-with two-pairs 100 50) with-J-70
+    (down 21 0 ∷ down 24 30 ∷ up 21 59 ∷ rests-S8 21 0 24 30 59 ∷ up 24 87 ∷ text (ヴ ∷ []) ∷ rests S1 ∷ []) ∷
+    -- the short-overlap time of S4 and S5 bounds neither: overlaps of 450
+    with-list "overlaps of more than 400" (lent-with two-pairs 1_000 50) with-L-60
+    (down 21 0 ∷ down 24 500 ∷ up 21 950 ∷ rests-S8 21 0 24 500 950 ∷ up 24 1_399 ∷ text (か ∷ さ ∷ []) ∷ sent [] ∷ rests S1 ∷ []) ∷
     in-S8 "a function key" (function 60 ∷ text (ヴ ∷ []) ∷ sent-ヴ [] ∷ rests S1 ∷ []) ∷
     in-S8 "a tick, a thumb up, a repeat, M up once more"
     (tick 60 ∷ thumb-up Right 61 ∷ down 24 62 ∷ up 21 63 ∷ answered 0 ∷ nothing ∷ rests-S8 21 0 24 30 59 ∷ []) ∷
@@ -309,6 +320,13 @@ lent-decides =
     (down 18 0 ∷ asked 0 (to-wait 200) ∷ tick 199 ∷ nothing ∷ tick 200 ∷ text (い ∷ []) ∷ []) ∷
     with-list "in no pair" (lent-with two-pairs 200 50) usual (down 0 0 ∷ asked 0 (to-wait 100) ∷ tick 100 ∷ text (stop ∷ []) ∷ []) ∷
     with-list "A above P" (lent-with two-pairs 50 50) usual (down 21 0 ∷ asked 0 (to-wait 100) ∷ []) ∷
+    with-list "A, rounded up, above P" (lent-with two-pairs 50 50) with-J-60 (down 21 0 ∷ asked 0 (to-wait 67) ∷ []) ∷
+    with-list "a pair within P, behind A" (lent-with two-pairs 200 50) usual (down 21 0 ∷ down 24 150 ∷ nothing ∷ rests-S7 21 0 24 150 ∷ []) ∷
+    -- two letters wait T_s, be P shorter (67) or longer (150)
+    with-list "T_s and not P, which is shorter" (lent-with two-pairs 100 60) (settings-of 50 50 50 0)
+    (down 21 0 ∷ down 24 30 ∷ asked 30 (to-wait 100) ∷ []) ∷
+    with-list "T_s and not P, which is longer" (lent-with two-pairs 100 40) (settings-of 50 50 50 0)
+    (down 21 0 ∷ down 24 30 ∷ asked 30 (to-wait 100) ∷ []) ∷
     -- N=60: P is 100·40/60, and S8's wait 44·40/60, both rounded up
     with-list "rounded up" (lent-with two-pairs 100 60) (settings-of 50 50 50 0)
     (down 21 0 ∷ asked 0 (to-wait 67) ∷ down 24 30 ∷ up 21 74 ∷ rests-S8 21 0 24 30 74 ∷ asked 74 (to-wait 30) ∷ []) ∷
@@ -316,6 +334,8 @@ lent-decides =
     -- a pair's character that is shown already stays
     with-list "か for か, さ" (lent-with (pair 21 24 (code "か") ∷ []) 100 50) usual
     (down 21 0 ∷ down 24 30 ∷ up 24 31 ∷ text (Together (key 21) (key 24) (code "か") ∷ []) ∷ sent (backspace ∷ []) ∷ []) ∷
+    with-list "か for か, さ, and a third letter" (lent-with (pair 21 24 (code "か") ∷ []) 100 50) usual
+    (down 21 0 ∷ down 24 30 ∷ down 18 61 ∷ sent (backspace ∷ sign (code "い") ∷ []) ∷ []) ∷
     with-list "さ for か, さ" (lent-with (pair 21 24 (code "さ") ∷ []) 100 50) usual
     (down 21 0 ∷ down 24 30 ∷ up 24 31 ∷ sent (backspace ∷ backspace ∷ sign (code "さ") ∷ []) ∷ []) ∷
     -- 12 before 2, 3, 4 and 5, with no pairs too
@@ -326,7 +346,22 @@ lent-decides =
     with-list "145 of 150" (lent-with two-pairs 50 50) (settings-of 50 50 50 0)
     (down 21 0 ∷ down 24 49 ∷ up 21 97 ∷ asked 97 (to-wait 48) ∷ tick 144 ∷ nothing ∷ tick 145 ∷ text (か ∷ さ ∷ []) ∷ []) ∷
     with-list "217 of 220" (lent-with two-pairs 60 50) usual
-    (down 21 0 ∷ down 24 99 ∷ up 21 158 ∷ asked 158 (to-wait 59) ∷ tick 216 ∷ nothing ∷ tick 217 ∷ text (か ∷ さ ∷ []) ∷ []) ∷ []
+    (down 21 0 ∷ down 24 99 ∷ up 21 158 ∷ asked 158 (to-wait 59) ∷ tick 216 ∷ nothing ∷ tick 217 ∷ text (か ∷ さ ∷ []) ∷ []) ∷
+    with-list "2,995 of 3,000" (lent-with two-pairs 1_000 50) (settings-of 50 50 50 0)
+    (down 21 0 ∷ down 24 999 ∷ up 21 1_997 ∷ asked 1_997 (to-wait 998) ∷ tick 2_994 ∷ nothing ∷ tick 2_995 ∷ text (か ∷ さ ∷ []) ∷ []) ∷ []
+
+-- A letter that waits with a thumb asks no list: 21 and 24, a pair, where a thumb came before one of them or between them. (ListNotRead
+-- in StepFacts.antt says it of every list.)
+abbrev pub beside-a-thumb : List Example
+beside-a-thumb =
+    with-pairs "S5, a letter" (thumb Right 0 ∷ down 21 30 ∷ down 24 50 ∷ text (が ∷ []) ∷ rests (S2 (key 24) (at 50)) ∷ []) ∷
+    with-pairs "S6, a letter"
+    (thumb Right 0 ∷ down 21 30 ∷ thumb-up Right 50 ∷ rests (S6 Right (at 0) (key 21) (at 30) (at 50)) ∷ down 24 60 ∷ text (が ∷ []) ∷
+    rests (S2 (key 24) (at 60)) ∷ []) ∷
+    with-pairs "S4, a letter nearer to the thumb"
+    (down 21 0 ∷ thumb Right 30 ∷ down 24 50 ∷ text (か ∷ []) ∷ rests (S5 Right (at 30) (key 24) (at 50)) ∷ []) ∷
+    with-list "S4, a letter as far from the thumb" (lent-with two-pairs 100 50) with-J-60
+    (down 21 0 ∷ thumb Right 30 ∷ down 24 60 ∷ text (が ∷ []) ∷ rests (S2 (key 24) (at 60)) ∷ []) ∷ []
 
 -- The lines as the rules have them: each thing that 01 says is replaced by what there is. es are the events so far, from a
 -- fresh state; n is the number that the last of them gave back, q what it sent.
@@ -365,6 +400,9 @@ OneIsUpHold = map observed one-is-up ≡ one-is-up
 abbrev pub LentDecidesHold : Type 0
 LentDecidesHold = map observed lent-decides ≡ lent-decides
 
+abbrev pub BesideAThumbHold : Type 0
+BesideAThumbHold = map observed beside-a-thumb ≡ beside-a-thumb
+
 -- A machine made by hand, that no sequence leaves: key 21 waits since a stamp, whether it is held or not.
 abbrev pub waits-21 : ℕ → ℕ → ℕ → Machine
 waits-21 since last held = record { settings = usual; resting = S2 (key 21) (at since); last = at last; held = held }
@@ -389,6 +427,53 @@ pub record OtherListHold : Type 0 where
   pub its-list : step (lent-with two-pairs 100 50) (waits-21-24 30) (an-event 6 0 40) ≡ gives 0 [] [] (waits-21-24 40)
   pub other-list : step (lent-with (pair 21 18 (code "ヴ") ∷ []) 100 50) (waits-21-24 30) (an-event 6 0 40) ≡ gives 2 [] [] (waits-21-24 30)
   pub no-list : step no-pairs (waits-21-24 30) (an-event 6 0 40) ≡ gives 2 [] [] (waits-21-24 30)
+
+-- More machines made by hand, well formed or not, with the usual settings and no key held: what is lent, what rests, the last stamp, and
+-- the number that a tick at that stamp is answered.
+pub record ByHand : Type 0 where
+  pub lent : Lent
+  pub resting : Resting
+  pub last : ℕ
+  pub number : ℕ
+
+abbrev pub made-with : List Pair → Resting → ℕ → ℕ → ByHand
+made-with l x last n = record { lent = lent-with l 100 50; resting = x; last = last; number = n }
+
+abbrev pub made : Resting → ℕ → ℕ → ByHand
+made = made-with two-pairs
+
+abbrev pub by-hand : List ByHand
+by-hand =
+    -- each of two waiting letters in some pair of the list, but not in one
+    made-with (pair 21 18 (code "ヴ") ∷ pair 24 0 (code "ヷ") ∷ []) (S7 (key 21) (at 0) (key 24) (at 30)) 40 2 ∷
+    made-with (pair 21 18 (code "ヴ") ∷ pair 24 0 (code "ヷ") ∷ []) (S8 (key 21) (at 0) (key 24) (at 30) (at 40)) 40 2 ∷
+    made (S7 (key 21) (at 0) (key 24) (at 30)) 40 0 ∷
+    made (S8 (key 21) (at 0) (key 24) (at 30) (at 40)) 40 0 ∷
+    -- stamps in the order of events, equal ones too
+    made (S4 (key 21) (at 40) Right (at 30)) 40 2 ∷
+    made (S7 (key 21) (at 40) (key 24) (at 30)) 40 2 ∷
+    made (S8 (key 21) (at 40) (key 24) (at 30) (at 40)) 40 2 ∷
+    made (S8 (key 21) (at 0) (key 24) (at 30) (at 20)) 40 2 ∷
+    made (S7 (key 21) (at 30) (key 24) (at 30)) 30 0 ∷
+    made (S8 (key 21) (at 30) (key 24) (at 30) (at 30)) 30 0 ∷
+    -- and none behind the last accepted one
+    made (S7 (key 21) (at 0) (key 24) (at 50)) 40 2 ∷
+    made (S8 (key 21) (at 0) (key 24) (at 30) (at 50)) 40 2 ∷ []
+
+abbrev pub hand-made : ByHand → Machine
+hand-made x = record { settings = usual; resting = x .resting; last = at (x .last); held = 0 }
+
+abbrev pub ticked : ByHand → ByHand
+ticked x =
+    record {
+      lent = x .lent;
+      resting = x .resting;
+      last = x .last;
+      number = step (x .lent) (hand-made x) (an-event 6 0 (x .last)) .number;
+    }
+
+abbrev pub FormedByHandHold : Type 0
+FormedByHandHold = map ticked by-hand ≡ by-hand
 
 abbrev pub DistancesHold : Type 0
 DistancesHold = map observed distances ≡ distances
@@ -427,6 +512,12 @@ numbers =
     -- the longest wait with pairs, where T_s + P is the largest of the three; where FJ is; and without pairs, whatever T_s and N
     worked-with (lent-with two-pairs 50 50) (settings-of 50 50 50 0) (P-is 50 ∷ longest-is 150 ∷ []) ∷
     worked-with (lent-with two-pairs 60 50) usual (P-is 60 ∷ longest-is 220 ∷ []) ∷
+    worked-with (lent-with two-pairs 50 50) with-J-60 (A-is 67 ∷ D-is 100 ∷ W-is 250 ∷ longest-is 250 ∷ []) ∷
+    -- D is the largest of A, P and D; and with L=10 B is 900, but D only 100
+    worked-with (lent-with two-pairs 50 50) with-L-60 (P-is 50 ∷ D-is 101 ∷ longest-is 202 ∷ []) ∷
+    worked-with (lent-with two-pairs 50 50) (settings-of 100 50 10 0) (B-is 900 ∷ D-is 100 ∷ longest-is 200 ∷ []) ∷
+    -- P is the largest of the three
+    worked-with (lent-with two-pairs 1_000 50) (settings-of 50 50 50 0) (P-is 1_000 ∷ longest-is 3_000 ∷ []) ∷
     worked-with (lent-with two-pairs 1_000 99) usual (P-is 11 ∷ longest-is 1_111 ∷ []) ∷
     worked-with (lent-with two-pairs 1_000 1) usual (P-is 99_000 ∷ longest-is 199_000 ∷ []) ∷
     worked-with (lent-with two-pairs 50 50) (settings-of 200 99 99 0) (W-is 29_700 ∷ longest-is 29_700 ∷ []) ∷
