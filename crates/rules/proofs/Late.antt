@@ -1,8 +1,8 @@
 -- Late lines: each leads to S1, which commits nothing and is never due. So one line is enough, and what an event does behind it is
--- what it does in S1.
+-- what it does in S1. And which states do not ask what is lent.
 use Prim.Native.Nat.{ℕ, zero, suc, _≤_}
 use native.Mathlib.Omega.{arith}
-use mathlib.Core.Bool.{false}
+use mathlib.Core.Bool.{false, true≢false}
 use mathlib.Core.List.{[], append-nil}
 use mathlib.Core.Path.{_≡_, refl}
 use lib.ListN.{length}
@@ -11,8 +11,9 @@ use Rattle.rules.specs.Pairs.{Lent}
 use Rattle.rules.specs.States.{deadline}
 use Rattle.rules.specs.OneEvent.{Done, _leaving_, nothing, late, act, due-by, and-then, settle-in, settle}
 use Rattle.rules.specs.Sequences.{waiting}
-use Rattle.rules.specs.StepFacts.{LateOnce}
+use Rattle.rules.specs.StepFacts.{LateOnce, asks-lent, is-character-down, ListNotRead}
 use Rattle.rules.specs.declared.Stamp.{Stamp}
+use Rattle.rules.specs.declared.Key.{Key}
 use Rattle.rules.specs.declared.Settings.{Settings}
 use Rattle.rules.specs.declared.Resting.{Resting}
 use Rattle.rules.specs.declared.Resting.the-variants.{S1, S2, S3, S4, S5, S6, S7, S8}
@@ -81,3 +82,52 @@ late-once g s now y =
           (by-test (λ (d : Done). due-by now (deadline g s (d .resting)) ≡ false) (due-by now (deadline g s y))
           (λ _. rw (late-leaves-S1 g s y)) (λ h. h));
     }
+
+module _ (g h : Lent) (s : Settings) (now : Stamp) where
+  same-act : (x : Resting) (i : Input) → asks-lent x ≡ false → act g s now x i ≡ act h s now x i
+  same-act S1 i e = refl
+  same-act (S2 M m) i e = absurd (true≢false e)
+  same-act (S3 O o) i e = refl
+  same-act (S4 M m O o) i e = refl
+  same-act (S5 O o M m) i e = refl
+  same-act (S6 O o M m r) i e = refl
+  same-act (S7 M m K k) i e = absurd (true≢false e)
+  same-act (S8 M m K k r) i e = absurd (true≢false e)
+
+  same-deadline : (x : Resting) → asks-lent x ≡ false → deadline g s x ≡ deadline h s x
+  same-deadline S1 e = refl
+  same-deadline (S2 M m) e = absurd (true≢false e)
+  same-deadline (S3 O o) e = refl
+  same-deadline (S4 M m O o) e = refl
+  same-deadline (S5 O o M m) e = refl
+  same-deadline (S6 O o M m r) e = refl
+  same-deadline (S7 M m K k) e = absurd (true≢false e)
+  same-deadline (S8 M m K k r) e = absurd (true≢false e)
+
+  same-late : (x : Resting) → asks-lent x ≡ false → late g s x ≡ late h s x
+  same-late S1 e = refl
+  same-late (S2 M m) e = absurd (true≢false e)
+  same-late (S3 O o) e = refl
+  same-late (S4 M m O o) e = refl
+  same-late (S5 O o M m) e = refl
+  same-late (S6 O o M m r) e = refl
+  same-late (S7 M m K k) e = absurd (true≢false e)
+  same-late (S8 M m K k r) e = absurd (true≢false e)
+
+  same-act-in-S2 : (M : Key) (m : Stamp) (i : Input) → is-character-down i ≡ false → act g s now (S2 M m) i ≡ act h s now (S2 M m) i
+  same-act-in-S2 M m (CharacterDown N) e = absurd (true≢false e)
+  same-act-in-S2 M m (CharacterUp N) e = refl
+  same-act-in-S2 M m (ThumbDown P) e = refl
+  same-act-in-S2 M m (ThumbUp P) e = refl
+  same-act-in-S2 M m FunctionDown e = refl
+  same-act-in-S2 M m Tick e = refl
+
+  pub list-not-read : ListNotRead g h s now
+  list-not-read =
+      record {
+        same-act = same-act;
+        same-deadline = same-deadline;
+        same-late = same-late;
+        same-act-in-S2 = same-act-in-S2;
+        same-late-in-S2 = λ M m. refl;
+      }

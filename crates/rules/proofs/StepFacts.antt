@@ -14,7 +14,7 @@ use Rattle.rules.specs.Layout.{code-point}
 use Rattle.rules.specs.GivenBack.{acts-as, Answer}
 use Rattle.rules.specs.Sequences.{waiting}
 use Rattle.rules.specs.Demand3.{Begins}
-use Rattle.rules.specs.StepFacts.{StepSizes, SendingRule, NoneIs0, Sendable, StepSendable, TwoShown}
+use Rattle.rules.specs.StepFacts.{StepSizes, SendingRule, SendingTwo, NoneIs0, Sendable, StepSendable, TwoShown}
 use Rattle.rules.specs.declared.Stamp.{Stamp}
 use Rattle.rules.specs.declared.Key.{Key}
 use Rattle.rules.specs.declared.Thumb.{Thumb}
@@ -375,18 +375,29 @@ step-sendable g m e =
         (none-0-append (signs (d .items)) (shown (d .resting)) (signs-not-0 (d .items)) (shown-not-0 (d .resting)))
 
 -- The three cases of what is sent.
+-- a sign that q does not begin with goes, and so does all that is shown behind it
+not-first : (p : ℕ) (more q : List ℕ) → ¬ Begins q (p ∷ []) → sent (p ∷ more) q ≡ take-back (p ∷ more) ++ send q
+unfolding sent
+not-first p more [] h = sym (append-nil (take-back (p ∷ more)))
+not-first p more (d ∷ q) h =
+    by-test (λ (l : List Sending). l ≡ take-back (p ∷ more) ++ send (d ∷ q)) (eqb p d)
+    (λ same. absurd (h (record { rest = q; joined = ap (λ (c : ℕ). c ∷ q) (sym (eqb-true p d same)) })))
+    (λ _. refl)
+
 pub sending-rule : (p : ℕ) (q : List ℕ) → SendingRule p q
 unfolding sent
 sending-rule p q =
     record {
       no-p = refl;
       p-is-first = λ rest e. rw (e, eq-eqb p p refl);
-      otherwise = otherwise q;
+      otherwise = not-first p [] q;
     }
-  where
-    otherwise : (r : List ℕ) → ¬ Begins r (p ∷ []) → sent (p ∷ []) r ≡ backspace ∷ send r
-    otherwise [] h = refl
-    otherwise (d ∷ r) h =
-        by-test (λ (l : List Sending). l ≡ backspace ∷ send (d ∷ r)) (eqb p d)
-        (λ same. absurd (h (record { rest = r; joined = ap (λ (c : ℕ). c ∷ r) (sym (eqb-true p d same)) })))
-        (λ _. refl)
+
+pub sending-two : (p r : ℕ) (q : List ℕ) → SendingTwo p r q
+unfolding sent
+sending-two p r q =
+    record {
+      both-stay = λ rest e. rw (e, eq-eqb p p refl, eq-eqb r r refl);
+      p-stays = λ rest e h. rw (e, eq-eqb p p refl) (not-first r [] rest h);
+      otherwise = not-first p (r ∷ []) q;
+    }

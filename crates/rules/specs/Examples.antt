@@ -321,7 +321,8 @@ lent-decides =
     with-list "in no pair" (lent-with two-pairs 200 50) usual (down 0 0 ∷ asked 0 (to-wait 100) ∷ tick 100 ∷ text (stop ∷ []) ∷ []) ∷
     with-list "A above P" (lent-with two-pairs 50 50) usual (down 21 0 ∷ asked 0 (to-wait 100) ∷ []) ∷
     with-list "A, rounded up, above P" (lent-with two-pairs 50 50) with-J-60 (down 21 0 ∷ asked 0 (to-wait 67) ∷ []) ∷
-    with-list "a pair within P, behind A" (lent-with two-pairs 200 50) usual (down 21 0 ∷ down 24 150 ∷ nothing ∷ rests-S7 21 0 24 150 ∷ []) ∷
+    with-list "a pair within P, behind A" (lent-with two-pairs 200 50) usual
+    (down 21 0 ∷ down 24 150 ∷ nothing ∷ rests-S7 21 0 24 150 ∷ []) ∷
     -- two letters wait T_s, be P shorter (67) or longer (150)
     with-list "T_s and not P, which is shorter" (lent-with two-pairs 100 60) (settings-of 50 50 50 0)
     (down 21 0 ∷ down 24 30 ∷ asked 30 (to-wait 100) ∷ []) ∷
