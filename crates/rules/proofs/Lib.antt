@@ -22,6 +22,7 @@ pub mod Signed
 pub mod DistanceFacts
 pub mod MovedClock
 pub mod Pairs
+pub mod Good
 pub mod LastAccepted
 pub mod Tried
 pub mod TriedPairs

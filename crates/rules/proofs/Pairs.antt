@@ -46,7 +46,7 @@ unfolding pair-of
 as-listed l a b p = rw (turned-alike p a b)
 
 -- a pair's two keys, by their numbers
-named : (p : Pair) (a b : Key) → names p a b ≡ true → (p .first .0 ≡ a .0) × (p .second .0 ≡ b .0)
+pub named : (p : Pair) (a b : Key) → names p a b ≡ true → (p .first .0 ≡ a .0) × (p .second .0 ≡ b .0)
 unfolding names same-key
 named p a b e =
     let both = and-eq-true-iff (eqb (p .first .0) (a .0)) (eqb (p .second .0) (b .0)) .0 e in
@@ -56,7 +56,7 @@ naming : (p : Pair) (a b : Key) → p .first .0 ≡ a .0 → p .second .0 ≡ b 
 unfolding names same-key
 naming p a b e d = rw (eq-eqb (p .first .0) (a .0) e, eq-eqb (p .second .0) (b .0) d)
 
-one-of : {P : Type 0} (s t : Bool) → (s || t) ≡ true → (s ≡ true → P) → (t ≡ true → P) → P
+pub one-of : {P : Type 0} (s t : Bool) → (s || t) ≡ true → (s ≡ true → P) → (t ≡ true → P) → P
 one-of true t e f g = f refl
 one-of false t e f g = g e
 
@@ -65,11 +65,11 @@ or-right true t e = refl
 or-right false t e = e
 
 -- p, with its keys in one order or the other, is the pair of x and y
-as-named : (p : Pair) (x y : Key) → p .first .0 ≡ x .0 → p .second .0 ≡ y .0 → is-of p x y ≡ true
+pub as-named : (p : Pair) (x y : Key) → p .first .0 ≡ x .0 → p .second .0 ≡ y .0 → is-of p x y ≡ true
 unfolding is-of
 as-named p x y e d = rw (naming p x y e d)
 
-as-turned : (p : Pair) (x y : Key) → p .first .0 ≡ y .0 → p .second .0 ≡ x .0 → is-of p x y ≡ true
+pub as-turned : (p : Pair) (x y : Key) → p .first .0 ≡ y .0 → p .second .0 ≡ x .0 → is-of p x y ≡ true
 unfolding is-of
 as-turned p x y e d = or-right (names p x y) (names p y x) (naming p y x e d)
 
@@ -87,7 +87,7 @@ shared p q a b e d =
     (λ k. let m = named q a b k in as-turned p (q .first) (q .second) (n .0 ∙ sym (m .1)) (n .1 ∙ sym (m .0)))
     (λ k. let m = named q b a k in as-named p (q .first) (q .second) (n .0 ∙ sym (m .0)) (n .1 ∙ sym (m .1))))
 
-found : (upto rest : List Pair) (p : Pair) (x y : Key) → is-of p x y ≡ true → is-pair (upto ++ (p ∷ rest)) x y ≡ true
+pub found : (upto rest : List Pair) (p : Pair) (x y : Key) → is-of p x y ≡ true → is-pair (upto ++ (p ∷ rest)) x y ≡ true
 unfolding pair-of
 found [] rest p x y e = rw e
 found (q ∷ upto) rest p x y e = either (is-of q x y) (λ h. rw h) (λ h. rw h (found upto rest p x y e))

@@ -1,12 +1,12 @@
 -- What holds of the lists of Pairs.antt, and lists to try: those that are accepted, and those that each condition refuses. The
--- proofs are in proofs/Pairs.antt, that of the longest wait in proofs/Longest.antt.
-use Prim.Native.Nat.{ℕ, zero, suc, _≤_}
+-- proofs are in proofs/Pairs.antt, that of GoodExactly in proofs/Good.antt, that of the longest wait in proofs/Longest.antt.
+use Prim.Native.Nat.{ℕ, zero, suc, _≤_, _<_}
 use mathlib.Core.Bool.{Bool, true, false}
 use mathlib.Core.List.{List, [], _∷_, _++_, map}
-use mathlib.Core.Logic.{_≢_}
+use mathlib.Core.Logic.{_↔_, _≢_, _⊎_}
 use mathlib.Core.Option.{some}
 use mathlib.Core.Path.{_≡_}
-use lib.ListN.{take}
+use lib.ListN.{length, take}
 use Rattle.rules.specs.Numbers.{in-range, W}
 use Rattle.rules.specs.LayoutFacts.{key}
 use Rattle.rules.specs.Pairs.{Pair, Lent, T-s-least, T-s-most, N-least, N-most, is-of, pair-of, is-pair, in-some-pair, none-twice, is-pair-character, each-good, lent-good, W-pairs, longest}
@@ -38,6 +38,34 @@ pub record PairFacts (l : List Pair) (a b : Key) : Type 0 where
   -- of a list whose pairs are each good: what it gives is a pair's character, and no key is a pair with itself
   pub good-character : each-good l ≡ true → (c : ℕ) → pair-of l a b ≡ some c → is-pair-character c ≡ true
   pub not-itself : each-good l ≡ true → is-pair l a a ≡ false
+
+-- What 9/12 asks of what is lent, in numbers. Of a pair: two different keys below 31, and its character.
+pub record PairAsked (p : Pair) : Type 0 where
+  pub keys-differ : p .first .0 ≢ p .second .0
+  pub first-below : p .first .0 < 31
+  pub second-below : p .second .0 < 31
+  pub from-0020 : 0x0020 ≤ p .character
+  pub to-FFFF : p .character ≤ 0xFFFF
+  pub no-surrogate : p .character < 0xD800 ⊎ 0xDFFF < p .character
+
+-- two pairs are of the same two keys, in either order
+abbrev pub SameTwo : Pair → Pair → Type 0
+SameTwo p q =
+    (p .first .0 ≡ q .first .0 × p .second .0 ≡ q .second .0) ⊎ (p .first .0 ≡ q .second .0 × p .second .0 ≡ q .first .0)
+
+-- of the whole: no pair p stands once more, as q, anywhere behind it
+pub record LentAsked (g : Lent) : Type 0 where
+  pub at-most-64 : length (g .pairs) ≤ 64
+  pub none-again : (upto between rest : List Pair) (p q : Pair) → g .pairs ≡ upto ++ (p ∷ (between ++ (q ∷ rest))) → ¬ SameTwo p q
+  pub each-pair : (upto rest : List Pair) (p : Pair) → g .pairs ≡ upto ++ (p ∷ rest) → PairAsked p
+  pub T-s-from-50 : 50 ≤ g .t-s
+  pub T-s-to-1000 : g .t-s ≤ 1_000
+  pub N-from-1 : 1 ≤ g .n
+  pub N-to-99 : g .n ≤ 99
+
+-- it is accepted exactly when it is so
+abbrev pub GoodExactly : Lent → Type 0
+GoodExactly g = lent-good g ≡ true ↔ LentAsked g
 
 -- no pairs, T_s and N in range
 abbrev pub NoPairsGood : ℕ → ℕ → Type 0
@@ -91,7 +119,10 @@ abbrev pub trials : List Trial
 trials =
     with-pairs [] true ∷
     with-pairs (both 21 24 ∷ both 24 0 ∷ both 30 21 ∷ []) true ∷
+    -- the first key and the last
+    with-pairs (both 0 30 ∷ []) true ∷
     -- up to 64: the keys below 12 have 66 pairs
+    with-pairs (take 63 (all-below 12)) true ∷
     with-pairs (take 64 (all-below 12)) true ∷
     with-pairs (take 65 (all-below 12)) false ∷
     -- no pair twice, in either order, with any character
@@ -117,11 +148,15 @@ trials =
     with-times [] 50 50 true ∷
     with-times [] 1_000 50 true ∷
     with-times [] 1_001 50 false ∷
+    with-times (both 21 24 ∷ []) 49 50 false ∷
+    with-times (both 21 24 ∷ []) 1_001 50 false ∷
     -- N
     with-times [] 100 0 false ∷
     with-times [] 100 1 true ∷
     with-times [] 100 99 true ∷
-    with-times [] 100 100 false ∷ []
+    with-times [] 100 100 false ∷
+    with-times (both 21 24 ∷ []) 100 0 false ∷
+    with-times (both 21 24 ∷ []) 100 100 false ∷ []
 
 abbrev pub tried : Trial → Trial
 tried t = record { lent = t .lent; accepted = lent-good (t .lent) }
