@@ -11,7 +11,7 @@ use Rattle.rules.specs.OneEvent.{mark, same-thumb, same-key, second-char
 use Rattle.rules.specs.ZeroDelay.{character, sent}
 use Rattle.rules.specs.GivenBack.{input, is-new, judge, step-with, step}
 use Rattle.rules.specs.Distance.{asking-with, asking}
-use Rattle.rules.specs.Examples.{ExamplesHold, SlipsHold, SlowHandsHold, HeldDownHold, TwoWaitHold, OneIsUpHold, LentDecidesHold, BesideAThumbHold, ByHandHold, OtherListHold, FormedByHandHold, DistancesHold, NumbersHold}
+use Rattle.rules.specs.Examples.{ExamplesHold, SlipsHold, SlowHandsHold, HeldDownHold, TwoWaitHold, OneIsUpHold, HowLongHold, LentDecidesHold, BesideAThumbHold, ByHandHold, OtherListHold, FormedByHandHold, DistancesHold, NumbersHold}
 
 pub examples-hold : ExamplesHold
 unfolding step step-with lent-good none-twice each-good in-some-pair alone pair-of judge is-new input well-formed is-held hold release how-many held-formed onesIn in-range one-event settle settle-in mark same-thumb same-key second-character-takes-thumb second-thumb-takes-character short-overlap sent character code-point table up A B FJ FL
@@ -36,6 +36,10 @@ two-wait-hold = refl
 pub one-is-up-hold : OneIsUpHold
 unfolding asking asking-with step step-with lent-good none-twice each-good in-some-pair alone pair-of judge is-new input well-formed is-held hold release how-many held-formed onesIn in-range one-event settle settle-in mark same-thumb same-key second-character-takes-thumb second-thumb-takes-character short-overlap sent character code-point table up A B FJ FL names is-of is-pair-character pair-good pair-stays short-pair short-of GN P
 one-is-up-hold = refl
+
+pub how-long-hold : HowLongHold
+unfolding asking asking-with step step-with lent-good none-twice each-good in-some-pair alone pair-of judge is-new input well-formed is-held hold release how-many held-formed onesIn in-range one-event settle settle-in mark same-thumb same-key second-character-takes-thumb second-thumb-takes-character short-overlap sent character code-point table up A B FJ FL names is-of is-pair-character pair-good pair-stays short-pair short-of GN P
+how-long-hold = refl
 
 pub lent-decides-hold : LentDecidesHold
 unfolding asking asking-with step step-with lent-good none-twice each-good in-some-pair alone pair-of judge is-new input well-formed is-held hold release how-many held-formed onesIn in-range one-event settle settle-in mark same-thumb same-key second-character-takes-thumb second-thumb-takes-character short-overlap sent character code-point table up A B FJ FL names is-of is-pair-character pair-good pair-stays short-pair short-of GN P

@@ -312,9 +312,9 @@ one-is-up =
     with-pairs "another key up"
     (down 0 0 ∷ down 21 10 ∷ down 24 40 ∷ up 21 69 ∷ up 0 70 ∷ text (stop ∷ []) ∷ rests-S8 21 10 24 40 69 ∷ []) ∷ []
 
--- How long a letter waits, and what the list, T_s and N decide.
-abbrev pub lent-decides : List Example
-lent-decides =
+-- How long letters wait, by the list, T_s and N.
+abbrev pub how-long : List Example
+how-long =
     -- P=200: a key in some pair waits the larger of A and P, one in no pair A
     with-list "P above A" (lent-with two-pairs 200 50) usual
     (down 18 0 ∷ asked 0 (to-wait 200) ∷ tick 199 ∷ nothing ∷ tick 200 ∷ text (い ∷ []) ∷ []) ∷
@@ -332,6 +332,17 @@ lent-decides =
     with-list "rounded up" (lent-with two-pairs 100 60) (settings-of 50 50 50 0)
     (down 21 0 ∷ asked 0 (to-wait 67) ∷ down 24 30 ∷ up 21 74 ∷ rests-S8 21 0 24 30 74 ∷ asked 74 (to-wait 30) ∷ []) ∷
     with-list "by N" (lent-with two-pairs 100 60) usual (down 21 0 ∷ down 24 30 ∷ up 21 75 ∷ text (ヴ ∷ []) ∷ rests S1 ∷ []) ∷
+    -- the longest waits come near to these (the numbers stand below)
+    with-list "145 of 150" (lent-with two-pairs 50 50) (settings-of 50 50 50 0)
+    (down 21 0 ∷ down 24 49 ∷ up 21 97 ∷ asked 97 (to-wait 48) ∷ tick 144 ∷ nothing ∷ tick 145 ∷ text (か ∷ さ ∷ []) ∷ []) ∷
+    with-list "217 of 220" (lent-with two-pairs 60 50) usual
+    (down 21 0 ∷ down 24 99 ∷ up 21 158 ∷ asked 158 (to-wait 59) ∷ tick 216 ∷ nothing ∷ tick 217 ∷ text (か ∷ さ ∷ []) ∷ []) ∷
+    with-list "2,995 of 3,000" (lent-with two-pairs 1_000 50) (settings-of 50 50 50 0)
+    (down 21 0 ∷ down 24 999 ∷ up 21 1_997 ∷ asked 1_997 (to-wait 998) ∷ tick 2_994 ∷ nothing ∷ tick 2_995 ∷ text (か ∷ さ ∷ []) ∷ []) ∷ []
+
+-- What else the list, T_s and N decide: what is sent, and 12.
+abbrev pub lent-decides : List Example
+lent-decides =
     -- a pair's character that is shown already stays
     with-list "か for か, さ" (lent-with (pair 21 24 (code "か") ∷ []) 100 50) usual
     (down 21 0 ∷ down 24 30 ∷ up 24 31 ∷ text (Together (key 21) (key 24) (code "か") ∷ []) ∷ sent (backspace ∷ []) ∷ []) ∷
@@ -342,14 +353,7 @@ lent-decides =
     -- 12 before 2, 3, 4 and 5, with no pairs too
     with-list "12 before 2" (lent-with (pair 21 21 (code "ヴ") ∷ []) 100 50) (settings-of 49 50 50 0)
     (asked 0 (refused 12) ∷ down 21 0 ∷ answered 12 ∷ down 31 (largest-stamp + 1) ∷ answered 12 ∷ nothing ∷ rests S1 ∷ []) ∷
-    with-list "12 with no pairs" (lent-with [] 49 50) usual (asked (largest-stamp + 1) (refused 12) ∷ down 31 0 ∷ answered 12 ∷ []) ∷
-    -- the longest waits come near to these (the numbers stand below)
-    with-list "145 of 150" (lent-with two-pairs 50 50) (settings-of 50 50 50 0)
-    (down 21 0 ∷ down 24 49 ∷ up 21 97 ∷ asked 97 (to-wait 48) ∷ tick 144 ∷ nothing ∷ tick 145 ∷ text (か ∷ さ ∷ []) ∷ []) ∷
-    with-list "217 of 220" (lent-with two-pairs 60 50) usual
-    (down 21 0 ∷ down 24 99 ∷ up 21 158 ∷ asked 158 (to-wait 59) ∷ tick 216 ∷ nothing ∷ tick 217 ∷ text (か ∷ さ ∷ []) ∷ []) ∷
-    with-list "2,995 of 3,000" (lent-with two-pairs 1_000 50) (settings-of 50 50 50 0)
-    (down 21 0 ∷ down 24 999 ∷ up 21 1_997 ∷ asked 1_997 (to-wait 998) ∷ tick 2_994 ∷ nothing ∷ tick 2_995 ∷ text (か ∷ さ ∷ []) ∷ []) ∷ []
+    with-list "12 with no pairs" (lent-with [] 49 50) usual (asked (largest-stamp + 1) (refused 12) ∷ down 31 0 ∷ answered 12 ∷ []) ∷ []
 
 -- A letter that waits with a thumb asks no list: 21 and 24, a pair, where a thumb came before one of them or between them. (ListNotRead
 -- in StepFacts.antt says it of every list.)
@@ -397,6 +401,9 @@ TwoWaitHold = map observed two-wait ≡ two-wait
 
 abbrev pub OneIsUpHold : Type 0
 OneIsUpHold = map observed one-is-up ≡ one-is-up
+
+abbrev pub HowLongHold : Type 0
+HowLongHold = map observed how-long ≡ how-long
 
 abbrev pub LentDecidesHold : Type 0
 LentDecidesHold = map observed lent-decides ≡ lent-decides
