@@ -4,4 +4,6 @@ pub mod KeptList
 pub mod Pushing
 pub mod Sizes
 pub mod FillLoop
+pub mod ListEffect
 pub mod Judging
+pub mod Arrival
