@@ -7,3 +7,4 @@ pub mod FillLoop
 pub mod ListEffect
 pub mod Judging
 pub mod Arrival
+pub mod Example
