@@ -1,3 +1,4 @@
 pub mod Fields
 pub mod LosesNothing
+pub mod Formed
 pub mod Views

@@ -1,18 +1,23 @@
 // A machine as fixed-width numbers, for a host that is not written in Rattle. What each number says is in specs/Fields.antt.
+use held::held_formed;
 use rules::Key;
 use rules::Machine;
 use rules::Resting;
 use rules::Settings;
 use rules::Stamp;
 use rules::Thumb;
+use waits::at_or_before;
+use waits::is_key;
 ghost use mathlib.Core.Path.{_≡_};
+ghost use mathlib.Core.Bool.{_&&_};
 ghost use mathlib.Core.Option.{none, some};
-ghost use lib.Dec.{eqb};
+ghost use lib.Dec.{eqb, ltb};
 ghost use Rattle.rules.specs.Choice.{if_then_else_};
 ghost use Rattle.flat.specs.Fields.{thumb-number, joined, flat, no-character, no-thumb, no-release, no-machine};
 ghost use Rattle.flat.specs.Fields.{as-S1, as-S2, as-S3, as-S4, as-S5, as-S6, resting-named, named};
 ghost use Rattle.flat.specs.Fields.{no-settings, unopened, is-no-machine};
 ghost use Rattle.flat.specs.Views.{found-as, named-as};
+ghost use Rattle.flat.specs.Formed.{formed, rest-formed, thumb-at, resting-at, machine-at};
 
 // A field that a state does not use is 0. Stamps keep their type, so that a number of another clock is not taken for one in C either.
 // Nothing is left between the fields or behind them, so a struct in C is these numbers and no more.
@@ -320,4 +325,179 @@ pub fn is_no_machine(numbers: Flat) -> bool
         return no_release(numbers);
     }
     false
+}
+
+// Both are asked, so that neither costs a branch.
+fn both(a: bool, b: bool) -> bool
+    ensures { λ r. ⌜ r ≡ a && b ⌝ }
+{
+    if a {
+        return b;
+    }
+    false
+}
+
+fn is_thumb(number: u8) -> bool
+    ensures { λ r. ⌜ r ≡ ltb number 2 ⌝ }
+{
+    number < 2
+}
+
+// One function for each state: whether what rests is named, and well formed by the last stamp.
+fn s1_formed(numbers: Flat) -> bool
+    ensures { λ r. ⌜ r ≡ rest-formed (numbers .last) (as-S1 numbers) ⌝ }
+{
+    both(
+        both(no_character(numbers), no_thumb(numbers)),
+        no_release(numbers),
+    )
+}
+
+fn s2_formed(numbers: Flat) -> bool
+    ensures { λ r. ⌜ r ≡ rest-formed (numbers .last) (as-S2 numbers) ⌝ }
+{
+    let m = numbers.m;
+    let last = numbers.last;
+    let named = both(no_thumb(numbers), no_release(numbers));
+    both(named, both(is_key(Key(numbers.key)), at_or_before(m, last)))
+}
+
+fn s3_formed(numbers: Flat) -> bool
+    ensures { λ r. ⌜ r ≡ rest-formed (numbers .last) (as-S3 numbers) ⌝ }
+{
+    let o = numbers.o;
+    let last = numbers.last;
+    let named = both(no_character(numbers), no_release(numbers));
+    both(named, both(is_thumb(numbers.thumb), at_or_before(o, last)))
+}
+
+fn s4_formed(numbers: Flat) -> bool
+    ensures { λ r. ⌜ r ≡ rest-formed (numbers .last) (as-S4 numbers) ⌝ }
+{
+    let m = numbers.m;
+    let o = numbers.o;
+    let last = numbers.last;
+    let by = both(at_or_before(m, last), at_or_before(o, last));
+    let stamps = both(by, at_or_before(m, o));
+    both(
+        no_release(numbers),
+        both(
+            is_thumb(numbers.thumb),
+            both(is_key(Key(numbers.key)), stamps),
+        ),
+    )
+}
+
+fn s5_formed(numbers: Flat) -> bool
+    ensures { λ r. ⌜ r ≡ rest-formed (numbers .last) (as-S5 numbers) ⌝ }
+{
+    let m = numbers.m;
+    let o = numbers.o;
+    let last = numbers.last;
+    let by = both(at_or_before(o, last), at_or_before(m, last));
+    let stamps = both(by, at_or_before(o, m));
+    both(
+        no_release(numbers),
+        both(
+            is_thumb(numbers.thumb),
+            both(is_key(Key(numbers.key)), stamps),
+        ),
+    )
+}
+
+fn s6_formed(numbers: Flat) -> bool
+    ensures { λ r. ⌜ r ≡ rest-formed (numbers .last) (as-S6 numbers) ⌝ }
+{
+    let m = numbers.m;
+    let o = numbers.o;
+    let r = numbers.r;
+    let last = numbers.last;
+    let two = both(at_or_before(o, last), at_or_before(m, last));
+    let by = both(two, at_or_before(r, last));
+    let stamps = both(by, both(at_or_before(o, m), at_or_before(m, r)));
+    both(
+        is_thumb(numbers.thumb),
+        both(is_key(Key(numbers.key)), stamps),
+    )
+}
+
+// One arm for each state.
+fn rests_formed(numbers: Flat) -> bool
+    ensures { λ r. ⌜ r ≡ rest-formed (numbers .last) (resting-named numbers) ⌝ }
+{
+    let state = numbers.state;
+    match state {
+        1 => s1_formed(numbers),
+        2 => s2_formed(numbers),
+        3 => s3_formed(numbers),
+        4 => s4_formed(numbers),
+        5 => s5_formed(numbers),
+        6 => s6_formed(numbers),
+        _ => false, // no state
+    }
+}
+
+// Whether numbers name a machine that is well formed. It is asked of the numbers themselves: no machine is made.
+pub fn is_formed(numbers: Flat) -> bool
+    ensures { λ r. ⌜ r ≡ formed numbers ⌝ }
+{
+    let settings = Settings {
+        t: numbers.t,
+        j: numbers.j,
+        l: numbers.l,
+        solo: numbers.solo,
+    };
+    let last = numbers.last;
+    if numbers.held >= BITS {
+        return false;
+    }
+    let held = held_formed(numbers.held as u32);
+    let bounds = both(settings.in_range(), at_or_before(last, Machine::LARGEST));
+    both(both(bounds, held), rests_formed(numbers))
+}
+
+fn thumb_at(number: u8) -> Thumb
+    ensures { λ r. ⌜ r ≡ thumb-at number ⌝ }
+{
+    if number == 0 {
+        return Thumb::Left;
+    }
+    Thumb::Right
+}
+
+fn resting_at(numbers: Flat) -> Resting
+    ensures { λ r. ⌜ r ≡ resting-at numbers ⌝ }
+{
+    let state = numbers.state;
+    let m = numbers.m;
+    let o = numbers.o;
+    let r = numbers.r;
+    let key = Key(numbers.key);
+    let thumb = thumb_at(numbers.thumb);
+    match state {
+        2 => Resting::S2(key, m),
+        3 => Resting::S3(thumb, o),
+        4 => Resting::S4(key, m, thumb, o),
+        5 => Resting::S5(thumb, o, key, m),
+        6 => Resting::S6(thumb, o, key, m, r),
+        _ => Resting::S1,
+    }
+}
+
+// A machine for any numbers, for a caller who knows that they name one: it is that one, and nothing is asked again.
+pub fn machine_at(numbers: Flat) -> Machine
+    ensures { λ r. ⌜ r ≡ machine-at numbers ⌝ }
+{
+    let last = numbers.last;
+    Machine {
+        settings: Settings {
+            t: numbers.t,
+            j: numbers.j,
+            l: numbers.l,
+            solo: numbers.solo,
+        },
+        resting: resting_at(numbers),
+        last: last,
+        held: (numbers.held % BITS) as u32,
+    }
 }
