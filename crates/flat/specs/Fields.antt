@@ -1,7 +1,7 @@
--- The numbers of a machine (`flat`), and the machine that numbers name (`named`). M is a character key pressed at m, O a thumb
--- pressed at o, r the thumb's release. Any key, stamps and settings are allowed here: whether a machine is well formed is asked of
--- the machine.
-use Prim.Native.Nat.{ℕ, _^_}
+-- The numbers of a machine (`flat`), and the machine that numbers name (`named`). M is a character key pressed at m, K a second one
+-- pressed at k, O a thumb pressed at o, r the release of the thumb in S6, of M in S8. Any key, stamps and settings are allowed here:
+-- whether a machine is well formed is asked of the machine.
+use Prim.Native.Nat.{ℕ}
 use mathlib.Core.Bool.{Bool, _&&_}
 use mathlib.Core.Option.{Option, none, some}
 use lib.Dec.{ltb, eqb}
@@ -13,7 +13,7 @@ use Rattle.rules.specs.declared.Thumb.{Thumb}
 use Rattle.rules.specs.declared.Thumb.the-variants.{Left, Right}
 use Rattle.rules.specs.declared.Settings.{Settings}
 use Rattle.rules.specs.declared.Resting.{Resting}
-use Rattle.rules.specs.declared.Resting.the-variants.{S1, S2, S3, S4, S5, S6}
+use Rattle.rules.specs.declared.Resting.the-variants.{S1, S2, S3, S4, S5, S6, S7, S8}
 use Rattle.rules.specs.declared.Machine.{Machine}
 use Rattle.flat.specs.declared.Flat.{Flat}
 
@@ -27,18 +27,22 @@ pub record Rest : Type 0 where
   pub state : ℕ
   pub key : ℕ
   pub m : Stamp
+  pub second : ℕ
+  pub k : Stamp
   pub thumb : ℕ
   pub o : Stamp
   pub r : Stamp
 
 -- a number that a state does not use is 0
 abbrev pub rest : Resting → Rest
-rest S1 = record { state = 1; key = 0; m = at 0; thumb = 0; o = at 0; r = at 0 }
-rest (S2 M m) = record { state = 2; key = M .0; m = m; thumb = 0; o = at 0; r = at 0 }
-rest (S3 O o) = record { state = 3; key = 0; m = at 0; thumb = thumb-number O; o = o; r = at 0 }
-rest (S4 M m O o) = record { state = 4; key = M .0; m = m; thumb = thumb-number O; o = o; r = at 0 }
-rest (S5 O o M m) = record { state = 5; key = M .0; m = m; thumb = thumb-number O; o = o; r = at 0 }
-rest (S6 O o M m r) = record { state = 6; key = M .0; m = m; thumb = thumb-number O; o = o; r = r }
+rest S1 = record { state = 1; key = 0; m = at 0; second = 0; k = at 0; thumb = 0; o = at 0; r = at 0 }
+rest (S2 M m) = record { state = 2; key = M .0; m = m; second = 0; k = at 0; thumb = 0; o = at 0; r = at 0 }
+rest (S3 O o) = record { state = 3; key = 0; m = at 0; second = 0; k = at 0; thumb = thumb-number O; o = o; r = at 0 }
+rest (S4 M m O o) = record { state = 4; key = M .0; m = m; second = 0; k = at 0; thumb = thumb-number O; o = o; r = at 0 }
+rest (S5 O o M m) = record { state = 5; key = M .0; m = m; second = 0; k = at 0; thumb = thumb-number O; o = o; r = at 0 }
+rest (S6 O o M m r) = record { state = 6; key = M .0; m = m; second = 0; k = at 0; thumb = thumb-number O; o = o; r = r }
+rest (S7 M m K k) = record { state = 7; key = M .0; m = m; second = K .0; k = k; thumb = 0; o = at 0; r = at 0 }
+rest (S8 M m K k r) = record { state = 8; key = M .0; m = m; second = K .0; k = k; thumb = 0; o = at 0; r = r }
 
 -- these beside the settings, the last accepted stamp and the held keys
 abbrev pub joined : Machine → Rest → Flat
@@ -46,9 +50,11 @@ joined x n =
     record {
       last = x .last;
       m = n .m;
+      k = n .k;
       o = n .o;
       r = n .r;
       held = x .held;
+      second = n .second;
       t = x .settings .t;
       j = x .settings .j;
       l = x .settings .l;
@@ -62,9 +68,21 @@ joined x n =
 unfoldable pub flat : Machine → Flat
 flat x = joined x (rest (x .resting))
 
+-- a key's number is one of 8 bits
+abbrev pub key-numbers : ℕ
+key-numbers = 256
+
 -- M and m are 0
 unfoldable pub no-character : Flat → Bool
 no-character f = eqb (f .key) 0 && eqb (f .m .0) 0
+
+-- K and k are 0
+unfoldable pub no-second : Flat → Bool
+no-second f = eqb (f .second) 0 && eqb (f .k .0) 0
+
+-- K's number has room in a key: it is below 256
+unfoldable pub second-fits : Flat → Bool
+second-fits f = ltb (f .second) key-numbers
 
 -- O and o are 0
 unfoldable pub no-thumb : Flat → Bool
@@ -78,6 +96,10 @@ no-release f = eqb (f .r .0) 0
 abbrev pub character : Flat → Key
 character f = record { 0 = f .key }
 
+-- K
+abbrev pub second-character : Flat → Key
+second-character f = record { 0 = f .second }
+
 -- what rests with O, if its number is 0 or 1
 abbrev pub with-thumb : Flat → (Thumb → Resting) → Option Resting
 with-thumb f x =
@@ -86,24 +108,31 @@ with-thumb f x =
 
 -- what rests in each state, if what the state does not use is 0
 unfoldable pub as-S1 : Flat → Option Resting
-as-S1 f = if no-character f && no-thumb f && no-release f then some S1 else none
+as-S1 f = if no-character f && no-second f && no-thumb f && no-release f then some S1 else none
 
 unfoldable pub as-S2 : Flat → Option Resting
-as-S2 f = if no-thumb f && no-release f then some (S2 (character f) (f .m)) else none
+as-S2 f = if no-second f && no-thumb f && no-release f then some (S2 (character f) (f .m)) else none
 
 unfoldable pub as-S3 : Flat → Option Resting
-as-S3 f = if no-character f && no-release f then with-thumb f (λ O. S3 O (f .o)) else none
+as-S3 f = if no-character f && no-second f && no-release f then with-thumb f (λ O. S3 O (f .o)) else none
 
 unfoldable pub as-S4 : Flat → Option Resting
-as-S4 f = if no-release f then with-thumb f (λ O. S4 (character f) (f .m) O (f .o)) else none
+as-S4 f = if no-second f && no-release f then with-thumb f (λ O. S4 (character f) (f .m) O (f .o)) else none
 
 unfoldable pub as-S5 : Flat → Option Resting
-as-S5 f = if no-release f then with-thumb f (λ O. S5 O (f .o) (character f) (f .m)) else none
+as-S5 f = if no-second f && no-release f then with-thumb f (λ O. S5 O (f .o) (character f) (f .m)) else none
 
 unfoldable pub as-S6 : Flat → Option Resting
-as-S6 f = with-thumb f (λ O. S6 O (f .o) (character f) (f .m) (f .r))
+as-S6 f = if no-second f then with-thumb f (λ O. S6 O (f .o) (character f) (f .m) (f .r)) else none
 
--- a state is 1 to 6
+unfoldable pub as-S7 : Flat → Option Resting
+as-S7 f =
+    if no-thumb f && no-release f && second-fits f then some (S7 (character f) (f .m) (second-character f) (f .k)) else none
+
+unfoldable pub as-S8 : Flat → Option Resting
+as-S8 f = if no-thumb f && second-fits f then some (S8 (character f) (f .m) (second-character f) (f .k) (f .r)) else none
+
+-- a state is 1 to 8
 unfoldable pub resting-named : Flat → Option Resting
 resting-named f =
     if eqb (f .state) 1 then as-S1 f else
@@ -111,7 +140,9 @@ resting-named f =
     if eqb (f .state) 3 then as-S3 f else
     if eqb (f .state) 4 then as-S4 f else
     if eqb (f .state) 5 then as-S5 f else
-    if eqb (f .state) 6 then as-S6 f else none
+    if eqb (f .state) 6 then as-S6 f else
+    if eqb (f .state) 7 then as-S7 f else
+    if eqb (f .state) 8 then as-S8 f else none
 
 abbrev pub settings-named : Flat → Settings
 settings-named f = record { t = f .t; j = f .j; l = f .l; solo = f .solo }
@@ -121,20 +152,31 @@ abbrev pub around : Flat → Option Resting → Option Machine
 around f none = none
 around f (some x) = some (record { settings = settings-named f; resting = x; last = f .last; held = f .held })
 
--- a held set is a number of 32 bits
-abbrev pub bits : ℕ
-bits = 32
-
 -- the machine that numbers name, or none
 unfoldable pub named : Flat → Option Machine
-named f = if ltb (f .held) (2 ^ bits) then around f (resting-named f) else none
+named f = around f (resting-named f)
 
 -- No machine: every number is 0.
 
 -- numbers that name no machine: there is no state 0
 abbrev pub no-machine : Flat
 no-machine =
-    record { last = at 0; m = at 0; o = at 0; r = at 0; held = 0; t = 0; j = 0; l = 0; solo = 0; state = 0; key = 0; thumb = 0 }
+    record {
+      last = at 0;
+      m = at 0;
+      k = at 0;
+      o = at 0;
+      r = at 0;
+      held = 0;
+      second = 0;
+      t = 0;
+      j = 0;
+      l = 0;
+      solo = 0;
+      state = 0;
+      key = 0;
+      thumb = 0;
+    }
 
 abbrev pub numbers-of : Option Machine → Flat
 numbers-of none = no-machine
@@ -149,4 +191,4 @@ unfoldable pub unopened : Flat → Bool
 unopened f = eqb (f .state) 0 && eqb (f .last .0) 0 && eqb (f .held) 0 && no-settings f
 
 unfoldable pub is-no-machine : Flat → Bool
-is-no-machine f = unopened f && no-character f && no-thumb f && no-release f
+is-no-machine f = unopened f && no-character f && no-second f && no-thumb f && no-release f

@@ -1,5 +1,6 @@
 // A machine as fixed-width numbers, for a host that is not written in Rattle. What each number says is in specs/Fields.antt.
 use held::held_formed;
+use pairs::is_pair;
 use rules::Key;
 use rules::Machine;
 use rules::Resting;
@@ -13,11 +14,13 @@ ghost use mathlib.Core.Bool.{_&&_};
 ghost use mathlib.Core.Option.{none, some};
 ghost use lib.Dec.{eqb, ltb};
 ghost use Rattle.rules.specs.Choice.{if_then_else_};
-ghost use Rattle.flat.specs.Fields.{thumb-number, joined, flat, no-character, no-thumb, no-release, no-machine};
-ghost use Rattle.flat.specs.Fields.{as-S1, as-S2, as-S3, as-S4, as-S5, as-S6, resting-named, named};
-ghost use Rattle.flat.specs.Fields.{no-settings, unopened, is-no-machine};
+ghost use Rattle.rules.specs.States.{at};
+ghost use Rattle.pairs.specs.Lent.{of-list};
+ghost use Rattle.flat.specs.Fields.{thumb-number, joined, flat, no-character, no-second, second-fits, no-thumb, no-release};
+ghost use Rattle.flat.specs.Fields.{as-S1, as-S2, as-S3, as-S4, as-S5, as-S6, as-S7, as-S8, resting-named, named};
+ghost use Rattle.flat.specs.Fields.{no-machine, no-settings, unopened, is-no-machine};
 ghost use Rattle.flat.specs.Views.{found-as, named-as};
-ghost use Rattle.flat.specs.Formed.{formed, rest-formed, thumb-at, resting-at, machine-at};
+ghost use Rattle.flat.specs.Formed.{formed, rest-formed, thumb-at, second-at, resting-at, machine-at};
 
 // A field that a state does not use is 0. Stamps keep their type, so that a number of another clock is not taken for one in C either.
 // Nothing is left between the fields or behind them, so a struct in C is these numbers and no more.
@@ -25,29 +28,33 @@ ghost use Rattle.flat.specs.Formed.{formed, rest-formed, thumb-at, resti
 pub struct Flat {
     // The last accepted stamp.
     pub last: Stamp,
-    // When the character key M was pressed: states 2, 4, 5, 6.
+    // When the character key M was pressed: states 2, 4 to 8.
     pub m: Stamp,
+    // When the second character key K was pressed: states 7 and 8.
+    pub k: Stamp,
     // When the thumb O was pressed: states 3 to 6.
     pub o: Stamp,
-    // When the thumb was released: state 6.
+    // When the thumb was released: state 6. When M was released: state 8.
     pub r: Stamp,
-    // The held character keys, one bit a key; below BITS.
-    pub held: u64,
+    // The held character keys, one bit a key.
+    pub held: u32,
+    // K: states 7 and 8.
+    pub second: u32,
     // The settings: T, J, L and solo.
     pub t: u16,
     pub j: u8,
     pub l: u8,
     pub solo: u8,
-    // 1 to 6.
+    // 1 to 8.
     pub state: u8,
-    // M: states 2, 4, 5, 6.
+    // M: states 2, 4 to 8.
     pub key: u8,
     // O, 0 left and 1 right: states 3 to 6.
     pub thumb: u8,
 }
 
-// A held set is a number of 32 bits.
-const BITS: u64 = 0x1_0000_0000;
+// A key's number is below this.
+const KEY_NUMBERS: u32 = 256;
 
 // The stamp that a state does not use.
 const UNUSED: Stamp = Stamp(0);
@@ -74,18 +81,30 @@ fn thumb_number(thumb: Thumb) -> u8
 }
 
 // The numbers of a machine, given those of what rests.
-fn join(machine: Machine, state: u8, key: u8, m: Stamp, thumb: u8, o: Stamp, r: Stamp) -> Flat
-    ensures { λ f. ⌜ f ≡ joined machine (record { state = state; key = key; m = m; thumb = thumb; o = o; r = r }) ⌝ }
+fn join(
+    machine: Machine,
+    state: u8,
+    key: u8,
+    m: Stamp,
+    second: u8,
+    k: Stamp,
+    thumb: u8,
+    o: Stamp,
+    r: Stamp,
+) -> Flat
+    ensures { λ f. ⌜ f ≡
+        joined machine (record { state = state; key = key; m = m; second = second; k = k; thumb = thumb; o = o; r = r }) ⌝ }
 {
     let s = machine.settings;
     let last = machine.last;
-    let held = machine.held as u64;
     Flat {
         last: last,
         m: m,
+        k: k,
         o: o,
         r: r,
-        held: held,
+        held: machine.held,
+        second: second as u32,
         t: s.t,
         j: s.j,
         l: s.l,
@@ -96,31 +115,67 @@ fn join(machine: Machine, state: u8, key: u8, m: Stamp, thumb: u8, o: Stamp, r: 
     }
 }
 
+// The same in a state in which no second character waits.
+fn join_one(machine: Machine, state: u8, key: u8, m: Stamp, thumb: u8, o: Stamp, r: Stamp) -> Flat
+    ensures { λ f. ⌜ f ≡
+        joined machine (record { state = state; key = key; m = m; second = 0; k = at 0; thumb = thumb; o = o; r = r }) ⌝ }
+{
+    join(machine, state, key, m, 0, UNUSED, thumb, o, r)
+}
+
 // The numbers of any machine, well formed or not.
 pub fn flatten(machine: Machine) -> Flat
     ensures { λ r. ⌜ r ≡ flat machine ⌝ }
 {
     let resting = machine.resting;
     match resting {
-        Resting::S1 => join(machine, 1, 0, UNUSED, 0, UNUSED, UNUSED),
-        Resting::S2(key, m) => join(machine, 2, key.0, m, 0, UNUSED, UNUSED),
-        Resting::S3(thumb, o) => join(machine, 3, 0, UNUSED, thumb_number(thumb), o, UNUSED),
+        Resting::S1 => join_one(machine, 1, 0, UNUSED, 0, UNUSED, UNUSED),
+        Resting::S2(key, m) => join_one(machine, 2, key.0, m, 0, UNUSED, UNUSED),
+        Resting::S3(thumb, o) => { join_one(machine, 3, 0, UNUSED, thumb_number(thumb), o, UNUSED) }
         Resting::S4(key, m, thumb, o) => {
-            join(machine, 4, key.0, m, thumb_number(thumb), o, UNUSED)
+            join_one(machine, 4, key.0, m, thumb_number(thumb), o, UNUSED)
         }
         Resting::S5(thumb, o, key, m) => {
-            join(machine, 5, key.0, m, thumb_number(thumb), o, UNUSED)
+            join_one(machine, 5, key.0, m, thumb_number(thumb), o, UNUSED)
         }
         Resting::S6(thumb, o, key, m, r) => {
-            join(machine, 6, key.0, m, thumb_number(thumb), o, r)
+            join_one(machine, 6, key.0, m, thumb_number(thumb), o, r)
+        }
+        Resting::S7(key, m, second, k) => {
+            join(machine, 7, key.0, m, second.0, k, 0, UNUSED, UNUSED)
+        }
+        Resting::S8(key, m, second, k, r) => {
+            join(machine, 8, key.0, m, second.0, k, 0, UNUSED, r)
         }
     }
+}
+
+// Both are asked, so that neither costs a branch.
+fn both(a: bool, b: bool) -> bool
+    ensures { λ r. ⌜ r ≡ a && b ⌝ }
+{
+    if a {
+        return b;
+    }
+    false
 }
 
 fn no_character(numbers: Flat) -> bool
     ensures { λ r. ⌜ r ≡ no-character numbers ⌝ }
 {
     numbers.key == 0 && numbers.m.0 == 0
+}
+
+fn no_second(numbers: Flat) -> bool
+    ensures { λ r. ⌜ r ≡ no-second numbers ⌝ }
+{
+    numbers.second == 0 && numbers.k.0 == 0
+}
+
+fn second_fits(numbers: Flat) -> bool
+    ensures { λ r. ⌜ r ≡ second-fits numbers ⌝ }
+{
+    numbers.second < KEY_NUMBERS
 }
 
 fn no_thumb(numbers: Flat) -> bool
@@ -150,7 +205,13 @@ fn with_thumb(number: u8, left: Resting, right: Resting) -> Found
 fn as_s1(numbers: Flat) -> Found
     ensures { λ r. ⌜ found-as r ≡ as-S1 numbers ⌝ }
 {
-    if no_character(numbers) && no_thumb(numbers) && no_release(numbers) {
+    if both(
+        both(
+            both(no_character(numbers), no_second(numbers)),
+            no_thumb(numbers),
+        ),
+        no_release(numbers),
+    ) {
         return Found::Some(Resting::S1);
     }
     Found::None
@@ -159,7 +220,10 @@ fn as_s1(numbers: Flat) -> Found
 fn as_s2(numbers: Flat) -> Found
     ensures { λ r. ⌜ found-as r ≡ as-S2 numbers ⌝ }
 {
-    if no_thumb(numbers) && no_release(numbers) {
+    if both(
+        both(no_second(numbers), no_thumb(numbers)),
+        no_release(numbers),
+    ) {
         let m = numbers.m;
         return Found::Some(Resting::S2(Key(numbers.key), m));
     }
@@ -169,7 +233,10 @@ fn as_s2(numbers: Flat) -> Found
 fn as_s3(numbers: Flat) -> Found
     ensures { λ r. ⌜ found-as r ≡ as-S3 numbers ⌝ }
 {
-    if no_character(numbers) && no_release(numbers) {
+    if both(
+        both(no_character(numbers), no_second(numbers)),
+        no_release(numbers),
+    ) {
         let o = numbers.o;
         return with_thumb(
             numbers.thumb,
@@ -183,7 +250,7 @@ fn as_s3(numbers: Flat) -> Found
 fn as_s4(numbers: Flat) -> Found
     ensures { λ r. ⌜ found-as r ≡ as-S4 numbers ⌝ }
 {
-    if no_release(numbers) {
+    if both(no_second(numbers), no_release(numbers)) {
         let key = Key(numbers.key);
         let m = numbers.m;
         let o = numbers.o;
@@ -199,7 +266,7 @@ fn as_s4(numbers: Flat) -> Found
 fn as_s5(numbers: Flat) -> Found
     ensures { λ r. ⌜ found-as r ≡ as-S5 numbers ⌝ }
 {
-    if no_release(numbers) {
+    if both(no_second(numbers), no_release(numbers)) {
         let key = Key(numbers.key);
         let m = numbers.m;
         let o = numbers.o;
@@ -215,15 +282,51 @@ fn as_s5(numbers: Flat) -> Found
 fn as_s6(numbers: Flat) -> Found
     ensures { λ r. ⌜ found-as r ≡ as-S6 numbers ⌝ }
 {
-    let key = Key(numbers.key);
-    let m = numbers.m;
-    let o = numbers.o;
-    let r = numbers.r;
-    with_thumb(
-        numbers.thumb,
-        Resting::S6(Thumb::Left, o, key, m, r),
-        Resting::S6(Thumb::Right, o, key, m, r),
-    )
+    if no_second(numbers) {
+        let key = Key(numbers.key);
+        let m = numbers.m;
+        let o = numbers.o;
+        let r = numbers.r;
+        return with_thumb(
+            numbers.thumb,
+            Resting::S6(Thumb::Left, o, key, m, r),
+            Resting::S6(Thumb::Right, o, key, m, r),
+        );
+    }
+    Found::None
+}
+
+// K, where its number fits: the machine's type has 8 bits for it.
+fn second_at(numbers: Flat) -> Key
+    ensures { λ r. ⌜ r ≡ second-at numbers ⌝ }
+{
+    Key((numbers.second & 0xFF) as u8)
+}
+
+fn as_s7(numbers: Flat) -> Found
+    ensures { λ r. ⌜ found-as r ≡ as-S7 numbers ⌝ }
+{
+    if both(
+        both(no_thumb(numbers), no_release(numbers)),
+        second_fits(numbers),
+    ) {
+        let m = numbers.m;
+        let k = numbers.k;
+        return Found::Some(Resting::S7(Key(numbers.key), m, second_at(numbers), k));
+    }
+    Found::None
+}
+
+fn as_s8(numbers: Flat) -> Found
+    ensures { λ r. ⌜ found-as r ≡ as-S8 numbers ⌝ }
+{
+    if both(no_thumb(numbers), second_fits(numbers)) {
+        let m = numbers.m;
+        let k = numbers.k;
+        let r = numbers.r;
+        return Found::Some(Resting::S8(Key(numbers.key), m, second_at(numbers), k, r));
+    }
+    Found::None
 }
 
 // What rests, by the number of the state.
@@ -238,6 +341,8 @@ fn find(numbers: Flat) -> Found
         4 => as_s4(numbers),
         5 => as_s5(numbers),
         6 => as_s6(numbers),
+        7 => as_s7(numbers),
+        8 => as_s8(numbers),
         _ => Found::None, // no state
     }
 }
@@ -246,9 +351,6 @@ fn find(numbers: Flat) -> Found
 pub fn machine_of(numbers: Flat) -> Named
     ensures { λ r. ⌜ named-as r ≡ named numbers ⌝ }
 {
-    if numbers.held >= BITS {
-        return Named::None;
-    }
     let last = numbers.last;
     match find(numbers) {
         Found::None => Named::None,
@@ -261,7 +363,7 @@ pub fn machine_of(numbers: Flat) -> Named
             },
             resting: resting,
             last: last,
-            held: numbers.held as u32,
+            held: numbers.held,
         }),
     }
 }
@@ -273,9 +375,11 @@ pub fn no_machine() -> Flat
     Flat {
         last: UNUSED,
         m: UNUSED,
+        k: UNUSED,
         o: UNUSED,
         r: UNUSED,
         held: 0,
+        second: 0,
         t: 0,
         j: 0,
         l: 0,
@@ -321,20 +425,16 @@ fn unopened(numbers: Flat) -> bool
 pub fn is_no_machine(numbers: Flat) -> bool
     ensures { λ r. ⌜ r ≡ is-no-machine numbers ⌝ }
 {
-    if unopened(numbers) && no_character(numbers) && no_thumb(numbers) {
-        return no_release(numbers);
-    }
-    false
-}
-
-// Both are asked, so that neither costs a branch.
-fn both(a: bool, b: bool) -> bool
-    ensures { λ r. ⌜ r ≡ a && b ⌝ }
-{
-    if a {
-        return b;
-    }
-    false
+    both(
+        both(
+            both(
+                both(unopened(numbers), no_character(numbers)),
+                no_second(numbers),
+            ),
+            no_thumb(numbers),
+        ),
+        no_release(numbers),
+    )
 }
 
 fn is_thumb(number: u8) -> bool
@@ -343,44 +443,54 @@ fn is_thumb(number: u8) -> bool
     number < 2
 }
 
-// One function for each state: whether what rests is named, and well formed by the last stamp.
-fn s1_formed(numbers: Flat) -> bool
-    ensures { λ r. ⌜ r ≡ rest-formed (numbers .last) (as-S1 numbers) ⌝ }
+// One function for each state: whether what rests is named, and well formed by the last stamp and the list.
+fn s1_formed(list: &[u32], numbers: Flat) -> bool
+    ensures { λ r. ⌜ r ≡ rest-formed (of-list (now (list .entry))) (numbers .last) (as-S1 numbers) ⌝ }
 {
     both(
-        both(no_character(numbers), no_thumb(numbers)),
+        both(
+            both(no_character(numbers), no_second(numbers)),
+            no_thumb(numbers),
+        ),
         no_release(numbers),
     )
 }
 
-fn s2_formed(numbers: Flat) -> bool
-    ensures { λ r. ⌜ r ≡ rest-formed (numbers .last) (as-S2 numbers) ⌝ }
+fn s2_formed(list: &[u32], numbers: Flat) -> bool
+    ensures { λ r. ⌜ r ≡ rest-formed (of-list (now (list .entry))) (numbers .last) (as-S2 numbers) ⌝ }
 {
     let m = numbers.m;
     let last = numbers.last;
-    let named = both(no_thumb(numbers), no_release(numbers));
+    let named = both(
+        both(no_second(numbers), no_thumb(numbers)),
+        no_release(numbers),
+    );
     both(named, both(is_key(Key(numbers.key)), at_or_before(m, last)))
 }
 
-fn s3_formed(numbers: Flat) -> bool
-    ensures { λ r. ⌜ r ≡ rest-formed (numbers .last) (as-S3 numbers) ⌝ }
+fn s3_formed(list: &[u32], numbers: Flat) -> bool
+    ensures { λ r. ⌜ r ≡ rest-formed (of-list (now (list .entry))) (numbers .last) (as-S3 numbers) ⌝ }
 {
     let o = numbers.o;
     let last = numbers.last;
-    let named = both(no_character(numbers), no_release(numbers));
+    let named = both(
+        both(no_character(numbers), no_second(numbers)),
+        no_release(numbers),
+    );
     both(named, both(is_thumb(numbers.thumb), at_or_before(o, last)))
 }
 
-fn s4_formed(numbers: Flat) -> bool
-    ensures { λ r. ⌜ r ≡ rest-formed (numbers .last) (as-S4 numbers) ⌝ }
+fn s4_formed(list: &[u32], numbers: Flat) -> bool
+    ensures { λ r. ⌜ r ≡ rest-formed (of-list (now (list .entry))) (numbers .last) (as-S4 numbers) ⌝ }
 {
     let m = numbers.m;
     let o = numbers.o;
     let last = numbers.last;
     let by = both(at_or_before(m, last), at_or_before(o, last));
     let stamps = both(by, at_or_before(m, o));
+    let named = both(no_second(numbers), no_release(numbers));
     both(
-        no_release(numbers),
+        named,
         both(
             is_thumb(numbers.thumb),
             both(is_key(Key(numbers.key)), stamps),
@@ -388,16 +498,17 @@ fn s4_formed(numbers: Flat) -> bool
     )
 }
 
-fn s5_formed(numbers: Flat) -> bool
-    ensures { λ r. ⌜ r ≡ rest-formed (numbers .last) (as-S5 numbers) ⌝ }
+fn s5_formed(list: &[u32], numbers: Flat) -> bool
+    ensures { λ r. ⌜ r ≡ rest-formed (of-list (now (list .entry))) (numbers .last) (as-S5 numbers) ⌝ }
 {
     let m = numbers.m;
     let o = numbers.o;
     let last = numbers.last;
     let by = both(at_or_before(o, last), at_or_before(m, last));
     let stamps = both(by, at_or_before(o, m));
+    let named = both(no_second(numbers), no_release(numbers));
     both(
-        no_release(numbers),
+        named,
         both(
             is_thumb(numbers.thumb),
             both(is_key(Key(numbers.key)), stamps),
@@ -405,8 +516,8 @@ fn s5_formed(numbers: Flat) -> bool
     )
 }
 
-fn s6_formed(numbers: Flat) -> bool
-    ensures { λ r. ⌜ r ≡ rest-formed (numbers .last) (as-S6 numbers) ⌝ }
+fn s6_formed(list: &[u32], numbers: Flat) -> bool
+    ensures { λ r. ⌜ r ≡ rest-formed (of-list (now (list .entry))) (numbers .last) (as-S6 numbers) ⌝ }
 {
     let m = numbers.m;
     let o = numbers.o;
@@ -416,30 +527,70 @@ fn s6_formed(numbers: Flat) -> bool
     let by = both(two, at_or_before(r, last));
     let stamps = both(by, both(at_or_before(o, m), at_or_before(m, r)));
     both(
-        is_thumb(numbers.thumb),
-        both(is_key(Key(numbers.key)), stamps),
+        no_second(numbers),
+        both(
+            is_thumb(numbers.thumb),
+            both(is_key(Key(numbers.key)), stamps),
+        ),
     )
 }
 
+fn s7_formed(list: &[u32], numbers: Flat) -> bool
+    ensures { λ r. ⌜ r ≡ rest-formed (of-list (now (list .entry))) (numbers .last) (as-S7 numbers) ⌝ }
+{
+    let m = numbers.m;
+    let k = numbers.k;
+    let last = numbers.last;
+    let key = Key(numbers.key);
+    let second = second_at(numbers);
+    let named = both(
+        both(no_thumb(numbers), no_release(numbers)),
+        second_fits(numbers),
+    );
+    let by = both(at_or_before(m, last), at_or_before(k, last));
+    let stamps = both(by, at_or_before(m, k));
+    let keys = both(is_key(key), is_key(second));
+    both(named, both(both(keys, stamps), is_pair(list, key, second)))
+}
+
+fn s8_formed(list: &[u32], numbers: Flat) -> bool
+    ensures { λ r. ⌜ r ≡ rest-formed (of-list (now (list .entry))) (numbers .last) (as-S8 numbers) ⌝ }
+{
+    let m = numbers.m;
+    let k = numbers.k;
+    let r = numbers.r;
+    let last = numbers.last;
+    let key = Key(numbers.key);
+    let second = second_at(numbers);
+    let named = both(no_thumb(numbers), second_fits(numbers));
+    let two = both(at_or_before(m, last), at_or_before(k, last));
+    let by = both(two, at_or_before(r, last));
+    let stamps = both(by, both(at_or_before(m, k), at_or_before(k, r)));
+    let keys = both(is_key(key), is_key(second));
+    both(named, both(both(keys, stamps), is_pair(list, key, second)))
+}
+
 // One arm for each state.
-fn rests_formed(numbers: Flat) -> bool
-    ensures { λ r. ⌜ r ≡ rest-formed (numbers .last) (resting-named numbers) ⌝ }
+fn rests_formed(list: &[u32], numbers: Flat) -> bool
+    ensures { λ r. ⌜ r ≡ rest-formed (of-list (now (list .entry))) (numbers .last) (resting-named numbers) ⌝ }
 {
     let state = numbers.state;
     match state {
-        1 => s1_formed(numbers),
-        2 => s2_formed(numbers),
-        3 => s3_formed(numbers),
-        4 => s4_formed(numbers),
-        5 => s5_formed(numbers),
-        6 => s6_formed(numbers),
+        1 => s1_formed(list, numbers),
+        2 => s2_formed(list, numbers),
+        3 => s3_formed(list, numbers),
+        4 => s4_formed(list, numbers),
+        5 => s5_formed(list, numbers),
+        6 => s6_formed(list, numbers),
+        7 => s7_formed(list, numbers),
+        8 => s8_formed(list, numbers),
         _ => false, // no state
     }
 }
 
 // Whether numbers name a machine that is well formed. It is asked of the numbers themselves: no machine is made.
-pub fn is_formed(numbers: Flat) -> bool
-    ensures { λ r. ⌜ r ≡ formed numbers ⌝ }
+pub fn is_formed(list: &[u32], numbers: Flat) -> bool
+    ensures { λ r. ⌜ r ≡ formed (of-list (now (list .entry))) numbers ⌝ }
 {
     let settings = Settings {
         t: numbers.t,
@@ -448,12 +599,9 @@ pub fn is_formed(numbers: Flat) -> bool
         solo: numbers.solo,
     };
     let last = numbers.last;
-    if numbers.held >= BITS {
-        return false;
-    }
-    let held = held_formed(numbers.held as u32);
+    let held = held_formed(numbers.held);
     let bounds = both(settings.in_range(), at_or_before(last, Machine::LARGEST));
-    both(both(bounds, held), rests_formed(numbers))
+    both(both(bounds, held), rests_formed(list, numbers))
 }
 
 fn thumb_at(number: u8) -> Thumb
@@ -470,9 +618,11 @@ fn resting_at(numbers: Flat) -> Resting
 {
     let state = numbers.state;
     let m = numbers.m;
+    let k = numbers.k;
     let o = numbers.o;
     let r = numbers.r;
     let key = Key(numbers.key);
+    let second = second_at(numbers);
     let thumb = thumb_at(numbers.thumb);
     match state {
         2 => Resting::S2(key, m),
@@ -480,6 +630,8 @@ fn resting_at(numbers: Flat) -> Resting
         4 => Resting::S4(key, m, thumb, o),
         5 => Resting::S5(thumb, o, key, m),
         6 => Resting::S6(thumb, o, key, m, r),
+        7 => Resting::S7(key, m, second, k),
+        8 => Resting::S8(key, m, second, k, r),
         _ => Resting::S1,
     }
 }
@@ -498,6 +650,6 @@ pub fn machine_at(numbers: Flat) -> Machine
         },
         resting: resting_at(numbers),
         last: last,
-        held: (numbers.held % BITS) as u32,
+        held: numbers.held,
     }
 }

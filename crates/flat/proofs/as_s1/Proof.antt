@@ -1,8 +1,7 @@
 -- `flat::as_s1` meets its contract.
-use mathlib.Core.Logic.{⊎-elim}
-use Rattle.flat.specs.Fields.{as-S1}
 use Rattle.flat.proofs.as_s1.Statement.{statement}
 use Rattle.flat.proofs.as_s1.Tie as tie
+use Rattle.flat.specs.Fields.{as-S1}
 
 pub as-s1-spec : {M : Type 1} → statement M
 unfolding as-S1
@@ -12,18 +11,31 @@ as-s1-spec =
     (λ c κs. tt)
     (λ c κs. tt)
     (λ c κs. tt)
+    (λ c κs. tt)
+    (λ c κs. tt)
+    (λ c κs. tt)
+    (λ c κs. tt)
     (λ c.
+    let early = c .before .before .before .before .before .before in
     rw (
-      ← c .before .before .before .before .before .no-character .ensures,
-      c .before .before .before .before .if1 .taken,
-      ← c .before .before .before .no-thumb .ensures,
-      c .before .before .if2 .taken,
-      ← c .before .no-release .ensures,
-      c .if3 .taken,
+      ← early .before .no-character .ensures,
+      ← early .no-second .ensures,
+      ← c .before .before .before .before .before .both .ensures,
+      ← c .before .before .before .before .no-thumb .ensures,
+      ← c .before .before .before .both2 .ensures,
+      ← c .before .before .no-release .ensures,
+      ← c .before .both3 .ensures,
+      c .if1 .taken,
     ))
     (λ c.
-    let e = c .before .no-character .ensures in
-    ⊎-elim
-    (λ w. rw (← e, w .0 .taken, ← w .1 .ensures, w .2 .taken, ← w .3 .ensures, w .4 .left))
-    (⊎-elim (λ w. rw (← e, w .0 .taken, ← w .1 .ensures, w .2 .left)) (λ w. rw (← e, w .left)))
-    (c .if1 .came)))
+    let early = c .before .before .before .before .before .before in
+    rw (
+      ← early .before .no-character .ensures,
+      ← early .no-second .ensures,
+      ← c .before .before .before .before .before .both .ensures,
+      ← c .before .before .before .before .no-thumb .ensures,
+      ← c .before .before .before .both2 .ensures,
+      ← c .before .before .no-release .ensures,
+      ← c .before .both3 .ensures,
+      c .if1 .left,
+    )))

@@ -1,8 +1,7 @@
 -- `flat::as_s3` meets its contract.
-use mathlib.Core.Logic.{⊎-elim}
-use Rattle.flat.specs.Fields.{as-S3}
 use Rattle.flat.proofs.as_s3.Statement.{statement}
 use Rattle.flat.proofs.as_s3.Tie as tie
+use Rattle.flat.specs.Fields.{as-S3}
 
 pub as-s3-spec : {M : Type 1} → statement M
 unfolding as-S3
@@ -12,14 +11,26 @@ as-s3-spec =
     (λ c κs. tt)
     (λ c κs. tt)
     (λ c κs. tt)
+    (λ c κs. tt)
+    (λ c κs. tt)
+    (λ c κs. tt)
     (λ c.
+    let early = c .before .before .before .before .before .before in
     rw (
-      ← c .before .before .before .before .before .no-character .ensures,
-      c .before .before .before .before .if1 .taken,
-      ← c .before .before .before .no-release .ensures,
-      c .before .before .if2 .taken,
+      ← early .before .no-character .ensures,
+      ← early .no-second .ensures,
+      ← c .before .before .before .before .before .both .ensures,
+      ← c .before .before .before .before .no-release .ensures,
+      ← c .before .before .before .both2 .ensures,
+      c .before .before .if1 .taken,
       ← c .with-thumb .ensures,
     ))
     (λ c.
-    let e = c .before .no-character .ensures in
-    ⊎-elim (λ w. rw (← e, w .0 .taken, ← w .1 .ensures, w .2 .left)) (λ w. rw (← e, w .left)) (c .if1 .came)))
+    rw (
+      ← c .before .before .before .before .before .no-character .ensures,
+      ← c .before .before .before .before .no-second .ensures,
+      ← c .before .before .before .both .ensures,
+      ← c .before .before .no-release .ensures,
+      ← c .before .both2 .ensures,
+      c .if1 .left,
+    )))

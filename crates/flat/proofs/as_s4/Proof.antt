@@ -1,7 +1,7 @@
 -- `flat::as_s4` meets its contract.
-use Rattle.flat.specs.Fields.{as-S4}
 use Rattle.flat.proofs.as_s4.Statement.{statement}
 use Rattle.flat.proofs.as_s4.Tie as tie
+use Rattle.flat.specs.Fields.{as-S4}
 
 pub as-s4-spec : {M : Type 1} → statement M
 unfolding as-S4
@@ -10,5 +10,20 @@ as-s4-spec =
     (tie.spec
     (λ c κs. tt)
     (λ c κs. tt)
-    (λ c. rw (← c .before .before .before .before .no-release .ensures, c .before .before .before .if1 .taken, ← c .with-thumb .ensures))
-    (λ c. rw (← c .before .no-release .ensures, c .if1 .left)))
+    (λ c κs. tt)
+    (λ c κs. tt)
+    (λ c.
+    rw (
+      ← c .before .before .before .before .before .before .no-second .ensures,
+      ← c .before .before .before .before .before .no-release .ensures,
+      ← c .before .before .before .before .both .ensures,
+      c .before .before .before .if1 .taken,
+      ← c .with-thumb .ensures,
+    ))
+    (λ c.
+    rw (
+      ← c .before .before .before .no-second .ensures,
+      ← c .before .before .no-release .ensures,
+      ← c .before .both .ensures,
+      c .if1 .left,
+    )))

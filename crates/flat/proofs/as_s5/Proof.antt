@@ -1,7 +1,7 @@
 -- `flat::as_s5` meets its contract.
-use Rattle.flat.specs.Fields.{as-S5}
 use Rattle.flat.proofs.as_s5.Statement.{statement}
 use Rattle.flat.proofs.as_s5.Tie as tie
+use Rattle.flat.specs.Fields.{as-S5}
 
 pub as-s5-spec : {M : Type 1} → statement M
 unfolding as-S5
@@ -10,5 +10,20 @@ as-s5-spec =
     (tie.spec
     (λ c κs. tt)
     (λ c κs. tt)
-    (λ c. rw (← c .before .before .before .before .no-release .ensures, c .before .before .before .if1 .taken, ← c .with-thumb .ensures))
-    (λ c. rw (← c .before .no-release .ensures, c .if1 .left)))
+    (λ c κs. tt)
+    (λ c κs. tt)
+    (λ c.
+    rw (
+      ← c .before .before .before .before .before .before .no-second .ensures,
+      ← c .before .before .before .before .before .no-release .ensures,
+      ← c .before .before .before .before .both .ensures,
+      c .before .before .before .if1 .taken,
+      ← c .with-thumb .ensures,
+    ))
+    (λ c.
+    rw (
+      ← c .before .before .before .no-second .ensures,
+      ← c .before .before .no-release .ensures,
+      ← c .before .both .ensures,
+      c .if1 .left,
+    )))

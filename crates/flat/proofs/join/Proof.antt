@@ -1,6 +1,5 @@
 -- `flat::join` meets its contract.
 use borrow.Author.Needs.{needs}
-use mathlib.Core.Path.{refl}
 use Rattle.flat.proofs.join.Statement.{statement}
 use Rattle.flat.proofs.join.Tie as tie
 
@@ -8,5 +7,4 @@ pub join-spec : {M : Type 1} → statement M
 join-spec =
     tie.close
     (tie.spec
-    (λ c. search needs)
-    (λ c. refl))
+    (λ c. search needs))

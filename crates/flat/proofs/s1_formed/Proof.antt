@@ -1,5 +1,4 @@
 -- `flat::s1_formed` meets its contract.
-use borrow.Author.Needs.{needs}
 use Rattle.flat.proofs.Forms.{in-1}
 use Rattle.flat.proofs.s1_formed.Statement.{statement}
 use Rattle.flat.proofs.s1_formed.Tie as tie
@@ -8,9 +7,21 @@ pub s1-formed-spec : {M : Type 1} → statement M
 s1-formed-spec =
     tie.close
     (tie.spec
-    (λ c κs. search needs)
-    (λ c κs. search needs)
-    (λ c κs. search needs)
-    (λ c κs. search needs)
-    (λ c κs. search needs)
-    (λ c. rw (in-1 _, ← c .before .before .before .before .no-character .ensures, ← c .before .before .before .no-thumb .ensures, ← c .before .before .both .ensures, ← c .before .no-release .ensures, ← c .both2 .ensures)))
+    (λ c κs. tt)
+    (λ c κs. tt)
+    (λ c κs. tt)
+    (λ c κs. tt)
+    (λ c κs. tt)
+    (λ c κs. tt)
+    (λ c κs. tt)
+    (λ c.
+    rw (
+      in-1 _ _,
+      ← c .before .before .before .before .before .before .no-character .ensures,
+      ← c .before .before .before .before .before .no-second .ensures,
+      ← c .before .before .before .before .both .ensures,
+      ← c .before .before .before .no-thumb .ensures,
+      ← c .before .before .both2 .ensures,
+      ← c .before .no-release .ensures,
+      ← c .both3 .ensures,
+    )))
