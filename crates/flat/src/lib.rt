@@ -17,7 +17,7 @@ ghost use Rattle.rules.specs.Choice.{if_then_else_};
 ghost use Rattle.rules.specs.States.{at};
 ghost use Rattle.pairs.specs.Lent.{of-list};
 ghost use Rattle.flat.specs.Fields.{thumb-number, joined, flat, no-character, no-second, second-fits, no-thumb, no-release};
-ghost use Rattle.flat.specs.Fields.{as-S1, as-S2, as-S3, as-S4, as-S5, as-S6, as-S7, as-S8, resting-named, named};
+ghost use Rattle.flat.specs.Fields.{as-S1, as-S2, as-S3, as-S4, as-S5, as-S6, as-S7, as-S8, resting-named, settings-named, named};
 ghost use Rattle.flat.specs.Fields.{no-machine, no-settings, unopened, is-no-machine};
 ghost use Rattle.flat.specs.Views.{found-as, named-as};
 ghost use Rattle.flat.specs.Formed.{formed, rest-formed, thumb-at, second-at, resting-at, machine-at};
@@ -347,20 +347,27 @@ fn find(numbers: Flat) -> Found
     }
 }
 
+fn settings_of(numbers: Flat) -> Settings
+    ensures { λ r. ⌜ r ≡ settings-named numbers ⌝ }
+{
+    Settings {
+        t: numbers.t,
+        j: numbers.j,
+        l: numbers.l,
+        solo: numbers.solo,
+    }
+}
+
 // The machine that numbers name. Whether it is well formed is asked of the machine.
 pub fn machine_of(numbers: Flat) -> Named
     ensures { λ r. ⌜ named-as r ≡ named numbers ⌝ }
 {
+    let settings = settings_of(numbers);
     let last = numbers.last;
     match find(numbers) {
         Found::None => Named::None,
         Found::Some(resting) => Named::Some(Machine {
-            settings: Settings {
-                t: numbers.t,
-                j: numbers.j,
-                l: numbers.l,
-                solo: numbers.solo,
-            },
+            settings: settings,
             resting: resting,
             last: last,
             held: numbers.held,
@@ -592,12 +599,7 @@ fn rests_formed(list: &[u32], numbers: Flat) -> bool
 pub fn is_formed(list: &[u32], numbers: Flat) -> bool
     ensures { λ r. ⌜ r ≡ formed (of-list (now (list .entry))) numbers ⌝ }
 {
-    let settings = Settings {
-        t: numbers.t,
-        j: numbers.j,
-        l: numbers.l,
-        solo: numbers.solo,
-    };
+    let settings = settings_of(numbers);
     let last = numbers.last;
     let held = held_formed(numbers.held);
     let bounds = both(settings.in_range(), at_or_before(last, Machine::LARGEST));
@@ -642,12 +644,7 @@ pub fn machine_at(numbers: Flat) -> Machine
 {
     let last = numbers.last;
     Machine {
-        settings: Settings {
-            t: numbers.t,
-            j: numbers.j,
-            l: numbers.l,
-            solo: numbers.solo,
-        },
+        settings: settings_of(numbers),
         resting: resting_at(numbers),
         last: last,
         held: numbers.held,

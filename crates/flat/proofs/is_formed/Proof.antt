@@ -14,9 +14,11 @@ is-formed-spec =
     (λ c κs. tt)
     (λ c κs. tt)
     (λ c κs. tt)
+    (λ c κs. tt)
     (λ c.
     rw (
       by-tests,
+      ← c .before .before .before .before .before .before .before .before .settings-of .ensures,
       ← c .before .before .before .before .before .before .held-formed .ensures,
       ← c .before .before .before .before .before .in-range .ensures,
       ← c .before .before .before .before .at-or-before .ensures,

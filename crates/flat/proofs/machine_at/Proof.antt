@@ -9,4 +9,5 @@ machine-at-spec =
     tie.close
     (tie.spec
     (λ c κs. tt)
-    (λ c. rw (← c .resting-at .ensures)))
+    (λ c κs. tt)
+    (λ c. rw (← c .before .settings-of .ensures, ← c .resting-at .ensures)))

@@ -10,7 +10,10 @@ machine-of-spec =
     tie.close
     (tie.spec
     (λ c κs. tt)
+    (λ c κs. tt)
     (λ c. search needs)
     (λ c. search needs)
     (λ c. rw (← c .before .before .find .ensures, c .enum-told .given .1))
-    (λ c. rw (← c .before .before .before .find .ensures, c .before .resting .given .1)))
+    (λ c.
+    let at-find = c .before .before .before in
+    rw (← at-find .find .ensures, c .before .resting .given .1, ← at-find .before .before .settings-of .ensures)))
