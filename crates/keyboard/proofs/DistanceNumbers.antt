@@ -7,6 +7,7 @@ use mathlib.Core.Option.{Option, none, some}
 use mathlib.Core.Path.{_≡_, refl, sym, ap, subst, _∙_}
 use lib.IntN.{ℤ, pos}
 use lib.ListN.{length}
+use Rattle.rules.specs.Pairs.{Lent}
 use Rattle.rules.specs.States.{later}
 use Rattle.rules.specs.GivenBack.{step}
 use Rattle.rules.specs.Demand3.{tick}
@@ -71,23 +72,23 @@ flat-last : (x : Machine) (t : Stamp) → flat (only-last x t .machine) ≡ with
 unfolding flat
 flat-last x t = refl
 
-module _ (f : Flat) (x : Machine) (names : named f ≡ some x) where
-  pub asks : (now : Stamp) → distance-numbers f now ≡ asked-numbers (asking x now)
+module _ (g : Lent) (f : Flat) (x : Machine) (names : named f ≡ some x) where
+  pub asks : (now : Stamp) → distance-numbers g f now ≡ asked-numbers (asking g x now)
   unfolding distance-numbers
   asks now = rw names
 
-  ticks : (t : Stamp) → step-numbers f (tick-at t) ≡ answered-numbers (step x (tick t))
-  ticks t = call-answers f x (tick-at t) names
+  ticks : (t : Stamp) → step-numbers g f (tick-at t) ≡ answered-numbers (step g x (tick t))
+  ticks t = call-answers g f x (tick-at t) names
 
   only-last-is : (t : Stamp) → answered-numbers (only-last x t) ≡ only-last-numbers f t
   only-last-is t = rw (flat-last x t, loses-nothing .one-form f x names)
 
-  pub distance-numbers-facts : (now : Stamp) → distance-numbers f now .number ≡ 0 → DistanceNumbers f x now
+  pub distance-numbers-facts : (now : Stamp) → distance-numbers g f now .number ≡ 0 → DistanceNumbers g f x now
   distance-numbers-facts now answered =
-      let k = asking x now .number in
-      let o = asking x now .distance in
+      let k = asking g x now .number in
+      let o = asking g x now .distance in
       let zero : k ≡ 0 = sym (told-number k o) ∙ sym (ap number (asks now)) ∙ answered in
-      let facts = distance-facts x now zero in
+      let facts = distance-facts g x now zero in
       record {
         due-commits = λ h. subst Counts (sym (ticks now)) (some-counted _ (facts .due-commits (due h)));
         commits-due = λ h. subst SaysDue (sym (asks now)) (due-says k o (facts .commits-due (none-counted _ (subst Counts (ticks now) h))));
@@ -108,12 +109,12 @@ module _ (f : Flat) (x : Machine) (names : named f ≡ some x) where
             ∙ only-last-is t;
       }
     where
-      due : SaysDue (distance-numbers f now) → DueOrOverdue (asking x now .distance)
-      due h = says-due (asking x now .number) (asking x now .distance) (subst SaysDue (asks now) h)
+      due : SaysDue (distance-numbers g f now) → DueOrOverdue (asking g x now .distance)
+      due h = says-due (asking g x now .number) (asking g x now .distance) (subst SaysDue (asks now) h)
 
-      in-n : (n : ℕ) → SaysIn (distance-numbers f now) n → asking x now .distance ≡ some (pos n)
+      in-n : (n : ℕ) → SaysIn (distance-numbers g f now) n → asking g x now .distance ≡ some (pos n)
       in-n n h =
-          says-in (asking x now .number) n (asking x now .distance) (subst (λ (r : DistanceAnswer). SaysIn r n) (asks now) h)
+          says-in (asking g x now .number) n (asking g x now .distance) (subst (λ (r : DistanceAnswer). SaysIn r n) (asks now) h)
 
       number : DistanceAnswer → ℕ
       number r = r .number
@@ -121,13 +122,13 @@ module _ (f : Flat) (x : Machine) (names : named f ≡ some x) where
       Counts : StepAnswer → Type 0
       Counts r = r .items ≢ 0
 
-      accepted : (t : Stamp) → step-numbers f (tick-at t) .number ≡ 0 → step x (tick t) .number ≡ 0
+      accepted : (t : Stamp) → step-numbers g f (tick-at t) .number ≡ 0 → step g x (tick t) .number ≡ 0
       accepted t z = sym (ap (λ (r : StepAnswer). r .number) (ticks t)) ∙ z
 
-pub same-refused-numbers : (f : Flat) (now : Stamp) → SameRefusedNumbers f now
+pub same-refused-numbers : (g : Lent) (f : Flat) (now : Stamp) → SameRefusedNumbers g f now
 unfolding distance-numbers step-numbers
-same-refused-numbers f now = go (named f)
+same-refused-numbers g f now = go (named f)
   where
-    go : (y : Option Machine) → distance-named now y .number ≡ step-named f (tick-at now) y .number
+    go : (y : Option Machine) → distance-named g now y .number ≡ step-named g f (tick-at now) y .number
     go none = refl
-    go (some x) = told-number (asking x now .number) (asking x now .distance) ∙ same-refusals x now
+    go (some x) = told-number (asking g x now .number) (asking g x now .distance) ∙ same-refusals g x now

@@ -5,8 +5,9 @@ use mathlib.Core.Logic.{_≢_}
 use mathlib.Core.Option.{Option, none, some}
 use mathlib.Core.Path.{_≡_, refl, sym, ap, _∙_}
 use Rattle.rules.specs.Numbers.{in-range}
+use Rattle.rules.specs.Pairs.{Lent, lent-good}
 use Rattle.rules.specs.States.{fresh, Opening, opening}
-use Rattle.rules.specs.GivenBack.{Verdict, refused, accepted, judge, answer, step}
+use Rattle.rules.specs.GivenBack.{Verdict, refused, accepted, judge, Answer, answer, step-with, step}
 use Rattle.rules.specs.Sequences.{after, state}
 use Rattle.rules.specs.declared.Settings.{Settings}
 use Rattle.rules.specs.declared.Machine.{Machine}
@@ -14,13 +15,14 @@ use Rattle.rules.specs.declared.Event.{Event}
 use Rattle.rules.proofs.Choices.{both-ways}
 use Rattle.rules.proofs.Formed.{stays-formed}
 use Rattle.flat.specs.Fields.{flat, named, numbers-of}
+use Rattle.flat.specs.Formed.{names-formed}
 use Rattle.flat.specs.declared.Flat.{Flat}
 use Rattle.flat.proofs.RoundTrip.{loses-nothing, all-fit}
 use Rattle.keyboard.specs.Keyboard.{event-of, answered-numbers, refused-numbers, step-named, step-numbers}
 use Rattle.keyboard.specs.declared.OpenAnswer.{OpenAnswer}
 use Rattle.keyboard.specs.declared.StepAnswer.{StepAnswer}
 use Rattle.keyboard.specs.KeyboardFacts.{KeyboardCalls, no-more, call, KeyboardRun, last-numbers, answers}
-use Rattle.keyboard.specs.KeyboardFacts.{formed-named, formed-numbers, KeyboardFacts}
+use Rattle.keyboard.specs.KeyboardFacts.{formed-numbers, KeyboardFacts}
 
 -- the numbers that opening gives: zeros, or a fresh machine's
 opens : (s : Settings) → named (numbers-of (opening s .machine)) ≡ opening s .machine
@@ -31,41 +33,49 @@ opens s =
     (loses-nothing .none-named)
 
 -- the numbers of a machine after an event, at one that numbers name
-after-back : (f : Flat) (x : Machine) (e : Event) → named f ≡ some x → named (flat (step x e .machine)) ≡ some (step x e .machine)
-after-back f x e h = loses-nothing .back (step x e .machine) (all-fit .step-fits x e (all-fit .named-fits f x h))
+after-back : (g : Lent) (f : Flat) (x : Machine) (e : Event) → named f ≡ some x
+    → named (flat (step g x e .machine)) ≡ some (step g x e .machine)
+after-back g f x e h = loses-nothing .back (step g x e .machine) (all-fit .step-fits g x e (all-fit .named-fits f x h))
 
-steps-on : (f : Flat) (x : Machine) (e : Event) → named f ≡ some x → named (step-numbers f e .machine) ≡ some (step x e .machine)
+steps-on : (g : Lent) (f : Flat) (x : Machine) (e : Event) → named f ≡ some x
+    → named (step-numbers g f e .machine) ≡ some (step g x e .machine)
 unfolding step-numbers
-steps-on f x e h = rw h (after-back f x e h)
+steps-on g f x e h = rw h (after-back g f x e h)
 
 -- of a machine's answer, by its verdict
-by-verdict : (f : Flat) (x : Machine) (e : Event) → flat x ≡ f → (v : Verdict)
-    → answered-numbers (answer x (e .stamp) v) .number ≢ 0
-    → answered-numbers (answer x (e .stamp) v) ≡ refused-numbers f (answered-numbers (answer x (e .stamp) v) .number)
-by-verdict f x e same (refused n) h = rw same
-by-verdict f x e same (accepted i) h = absurd (h refl)
+by-verdict : (g : Lent) (f : Flat) (x : Machine) (e : Event) → flat x ≡ f → (v : Verdict)
+    → answered-numbers (answer g x (e .stamp) v) .number ≢ 0
+    → answered-numbers (answer g x (e .stamp) v) ≡ refused-numbers f (answered-numbers (answer g x (e .stamp) v) .number)
+by-verdict g f x e same (refused n) h = rw same
+by-verdict g f x e same (accepted i) h = absurd (h refl)
 
-refuses : (f : Flat) (e : Event) → step-numbers f e .number ≢ 0 → step-numbers f e ≡ refused-numbers f (step-numbers f e .number)
-unfolding step-numbers step
-refuses f e = go (named f) refl
+refuses : (g : Lent) (f : Flat) (e : Event) → step-numbers g f e .number ≢ 0
+    → step-numbers g f e ≡ refused-numbers f (step-numbers g f e .number)
+unfolding step-numbers step step-with
+refuses g f e = go (named f) refl
   where
-    go : (y : Option Machine) → named f ≡ y → step-named f e y .number ≢ 0 → step-named f e y ≡ refused-numbers f (step-named f e y .number)
-    go none h k = refl
-    go (some x) h k = by-verdict f x e (loses-nothing .one-form f x h) (judge x e) k
+    go : (y : Option Machine) → named f ≡ y → step-named g f e y .number ≢ 0
+        → step-named g f e y ≡ refused-numbers f (step-named g f e y .number)
+    go none h = λ _. refl
+    go (some x) h =
+        let by = by-verdict g f x e (loses-nothing .one-form f x h) in
+        both-ways
+        (λ (r : Answer). answered-numbers r .number ≢ 0 → answered-numbers r ≡ refused-numbers f (answered-numbers r .number))
+        (lent-good g) (by (judge g x e)) (by (refused 12))
 
 -- a call at numbers that name a machine
-pub call-answers : (f : Flat) (x : Machine) (e : Event) → named f ≡ some x → step-numbers f e ≡ answered-numbers (step x e)
+pub call-answers : (g : Lent) (f : Flat) (x : Machine) (e : Event) → named f ≡ some x → step-numbers g f e ≡ answered-numbers (step g x e)
 unfolding step-numbers
-call-answers f x e h = rw h
+call-answers g f x e h = rw h
 
 -- what calls answer, and what the last numbers name
-runs-from : {f : Flat} {es : List Event} {rs : List StepAnswer} (x : Machine) → named f ≡ some x → KeyboardCalls f es rs
-    → (rs ≡ map answered-numbers (answers x es)) × (named (last-numbers f rs) ≡ some (after x es))
-runs-from x h no-more = (refl, h)
-runs-from x h (call {f = f} {kind = kind} {key = key} {stamp = stamp} {r = r} same more) =
+runs-from : (g : Lent) {f : Flat} {es : List Event} {rs : List StepAnswer} (x : Machine) → named f ≡ some x → KeyboardCalls g f es rs
+    → (rs ≡ map answered-numbers (answers g x es)) × (named (last-numbers f rs) ≡ some (after g x es))
+runs-from g x h no-more = (refl, h)
+runs-from g x h (call {f = f} {kind = kind} {key = key} {stamp = stamp} {r = r} same more) =
     let e = event-of kind key stamp in
-    let here : r ≡ answered-numbers (step x e) = same ∙ call-answers f x e h in
-    let rest = runs-from (step x e .machine) (ap (λ (a : StepAnswer). named (a .machine)) same ∙ steps-on f x e h) more in
+    let here : r ≡ answered-numbers (step g x e) = same ∙ call-answers g f x e h in
+    let rest = runs-from g (step g x e .machine) (ap (λ (a : StepAnswer). named (a .machine)) same ∙ steps-on g f x e h) more in
     (rw (here, rest .0), rest .1)
 
 -- what was opened is fresh
@@ -74,29 +84,29 @@ unfolding opening
 opened-fresh s =
     both-ways (λ (o : Opening). o .number ≡ 0 → o .machine ≡ some (fresh s)) (in-range s) (λ _. refl) (λ z. absurd (omega arith))
 
-from-opening : {s : Settings} {first : OpenAnswer} {es : List Event} {rs : List StepAnswer} → KeyboardRun s first es rs
-    → (rs ≡ map answered-numbers (answers (fresh s) es)) × (named (last-numbers (first .machine) rs) ≡ some (state s es))
-from-opening {s} run =
+from-opening : {g : Lent} {s : Settings} {first : OpenAnswer} {es : List Event} {rs : List StepAnswer} → KeyboardRun g s first es rs
+    → (rs ≡ map answered-numbers (answers g (fresh s) es)) × (named (last-numbers (first .machine) rs) ≡ some (state g s es))
+from-opening {g} {s} run =
     let same = run .opened-as in
     let zero : opening s .number ≡ 0 = sym (ap (λ (a : OpenAnswer). a .number) same) ∙ run .opened-well in
     let names = ap (λ (a : OpenAnswer). named (a .machine)) same ∙ opens s ∙ opened-fresh s zero in
-    runs-from (fresh s) names (run .calls)
+    runs-from g (fresh s) names (run .calls)
 
-keeps-formed : (f : Flat) (e : Event) → formed-numbers (step-numbers f e .machine) ≡ formed-numbers f
+keeps-formed : (g : Lent) (f : Flat) (e : Event) → formed-numbers g (step-numbers g f e .machine) ≡ formed-numbers g f
 unfolding step-numbers
-keeps-formed f e = go (named f) refl
+keeps-formed g f e = go (named f) refl
   where
-    go : (y : Option Machine) → named f ≡ y → formed-numbers (step-named f e y .machine) ≡ formed-named y
-    go none h = ap formed-named h
-    go (some x) h = ap formed-named (after-back f x e h) ∙ stays-formed x e
+    go : (y : Option Machine) → named f ≡ y → formed-numbers g (step-named g f e y .machine) ≡ names-formed g y
+    go none h = ap (names-formed g) h
+    go (some x) h = ap (names-formed g) (after-back g f x e h) ∙ stays-formed g x e
 
-pub keyboard-facts : KeyboardFacts
-keyboard-facts =
+pub keyboard-facts : (g : Lent) → KeyboardFacts g
+keyboard-facts g =
     record {
       opens = opens;
-      steps-on = steps-on;
-      refuses = refuses;
+      steps-on = steps-on g;
+      refuses = refuses g;
       runs = λ run. from-opening run .0;
       names-last = λ run. from-opening run .1;
-      keeps-formed = keeps-formed;
+      keeps-formed = keeps-formed g;
     }

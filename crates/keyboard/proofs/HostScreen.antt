@@ -1,37 +1,35 @@
 -- The numbers of a step say all that it sends and commits, and the host's screen is the committed line and what is shown.
-use Prim.Native.Nat.{ℕ, _≤_}
+use Prim.Native.Nat.{ℕ, zero, suc, _≤_}
 use native.Mathlib.Omega.{arith}
 use mathlib.Core.List.{List, [], _∷_, _++_, append-assoc, append-nil, map, foldl}
 use mathlib.Core.Option.{Option, none, some}
 use mathlib.Core.Path.{_≡_, refl, sym, ap, _∙_}
-use lib.Dec.{eqb}
 use lib.IntN.{ℤ}
-use lib.ListN.{length, getD, take}
+use lib.ListN.{length, getD, take, replicate}
 use borrow.Author.Tests.{ne-eqb}
+use Rattle.rules.specs.Pairs.{Lent}
 use Rattle.rules.specs.States.{fresh}
 use Rattle.rules.specs.ZeroDelay.{sign-unless-0, character, sign-of, signs, Sending, backspace, send}
 use Rattle.rules.specs.GivenBack.{step}
-use Rattle.rules.specs.Sequences.{along, items-in, sendings-in, typed}
-use Rattle.rules.specs.StepFacts.{NoneIs0, Sendable, plainly, behind-backspace}
+use Rattle.rules.specs.Sequences.{along, items-in, sendings-in, without-last, typed, signs-among}
+use Rattle.rules.specs.StepFacts.{NoneIs0, Sendable}
 use Rattle.rules.specs.Distance.{asking}
 use Rattle.rules.specs.declared.Stamp.{Stamp}
 use Rattle.rules.specs.declared.Thumb.the-variants.{Left, Right}
 use Rattle.rules.specs.declared.Machine.{Machine}
 use Rattle.rules.specs.declared.Item.{Item}
-use Rattle.rules.specs.declared.Item.the-variants.{Character, Mark}
+use Rattle.rules.specs.declared.Item.the-variants.{Character, Mark, Together}
 use Rattle.rules.specs.declared.Event.{Event}
-use Rattle.rules.proofs.Choices.{two-ways}
 use Rattle.rules.proofs.Screen.{typed-append, typed-send, signs-append, run-shows}
 use Rattle.rules.proofs.StepFacts.{step-sizes, step-sendable}
-use Rattle.preview.specs.Views.{packed-sendings}
-use Rattle.preview.proofs.Laws.{sends-no-backspace, sends-signs}
+use Rattle.preview.specs.Views.{backspaces-among, packed-sendings}
 use Rattle.flat.specs.Fields.{no-machine, named}
 use Rattle.flat.specs.declared.Flat.{Flat}
 use Rattle.keyboard.specs.declared.StepAnswer.{StepAnswer}
 use Rattle.keyboard.specs.Keyboard.{word-of, words-of, answer-numbers, answered-numbers, step-numbers}
-use Rattle.keyboard.specs.Keyboard.{told-numbers, distance-numbers}
+use Rattle.keyboard.specs.Keyboard.{no-machine-number, told-numbers, distance-numbers}
 use Rattle.keyboard.specs.KeyboardFacts.{answers}
-use Rattle.keyboard.specs.HostScreen.{signs-sent, shows, grows, sendings-read, HostFacts}
+use Rattle.keyboard.specs.HostScreen.{signs-sent, taken-back, shows, grows, sendings-read, HostFacts}
 use Rattle.keyboard.proofs.HandedOn.{keyboard-facts}
 
 -- What is sent.
@@ -44,28 +42,43 @@ three-back (a ∷ b ∷ []) le n = rw (ne-eqb a 0 (n .0), ne-eqb b 0 (n .1 .0))
 three-back (a ∷ b ∷ c ∷ []) le n = rw (ne-eqb a 0 (n .0), ne-eqb b 0 (n .1 .0), ne-eqb c 0 (n .1 .1 .0))
 three-back (a ∷ b ∷ c ∷ d ∷ q) le n = absurd (omega arith)
 
+-- the backspaces and the signs, each counted among both
+backspaces-back : (n : ℕ) (q : List ℕ) → backspaces-among (replicate n backspace ++ send q) ≡ n
+backspaces-back zero [] = refl
+backspaces-back zero (c ∷ q) = backspaces-back zero q
+backspaces-back (suc n) q = ap suc (backspaces-back n q)
+
+signs-back-among : (n : ℕ) (q : List ℕ) → signs-among (replicate n backspace ++ send q) ≡ q
+signs-back-among zero [] = refl
+signs-back-among zero (c ∷ q) = ap (λ (l : List ℕ). c ∷ l) (signs-back-among zero q)
+signs-back-among (suc n) q = signs-back-among n q
+
 -- nothing else of an answer plays a part
 packed-back : {l : List Sending} → Sendable l → sendings-read (answer-numbers no-machine 0 (words-of []) (packed-sendings l)) ≡ l
-packed-back (plainly q le h) = rw (sends-no-backspace q, sends-signs q, three-back q le h)
-packed-back (behind-backspace q le h) = rw (sends-signs q, three-back q le h)
+packed-back {l} s =
+    let n = s .backspaces in
+    let q = s .signs in
+    rw (s .sends, backspaces-back n q, signs-back-among n q, three-back q (s .at-most-3-signs) (s .none-is-0))
 
-sendings-back : (x : Machine) (e : Event) → sendings-read (answered-numbers (step x e)) ≡ step x e .sendings
-sendings-back x e = packed-back (step-sendable x e)
+sendings-back : (g : Lent) (x : Machine) (e : Event) → sendings-read (answered-numbers (step g x e)) ≡ step g x e .sendings
+sendings-back g x e = packed-back (step-sendable g x e)
 
 -- the header's rule types what was sent
 shows-typed : (screen : List ℕ) (r : StepAnswer) → shows screen r ≡ typed screen (sendings-read r)
-shows-typed screen r =
-    two-ways (λ (l : List ℕ) (b : List Sending). l ++ signs-sent r ≡ typed screen (b ++ send (signs-sent r)))
-    {t = eqb (r .backspace) 1} refl (sym (typed-send _ (signs-sent r))) (sym (typed-send screen (signs-sent r)))
+shows-typed screen r = go (r .backspaces) screen
+  where
+    go : (n : ℕ) (l : List ℕ) → taken-back n l ++ signs-sent r ≡ typed l (replicate n backspace ++ send (signs-sent r))
+    go zero l = sym (typed-send l (signs-sent r))
+    go (suc n) l = go n (without-last l)
 
-shows-all : (screen : List ℕ) (x : Machine) (es : List Event)
-    → foldl shows screen (map answered-numbers (answers x es)) ≡ typed screen (along sendings-in x es)
-shows-all screen x [] = refl
-shows-all screen x (e ∷ es) =
-    shows-all (shows screen (answered-numbers (step x e))) (step x e .machine) es
-    ∙ ap (λ (l : List ℕ). typed l (along sendings-in (step x e .machine) es))
-    (shows-typed screen (answered-numbers (step x e)) ∙ ap (typed screen) (sendings-back x e))
-    ∙ sym (typed-append screen (step x e .sendings) (along sendings-in (step x e .machine) es))
+shows-all : (g : Lent) (screen : List ℕ) (x : Machine) (es : List Event)
+    → foldl shows screen (map answered-numbers (answers g x es)) ≡ typed screen (along g sendings-in x es)
+shows-all g screen x [] = refl
+shows-all g screen x (e ∷ es) =
+    shows-all g (shows screen (answered-numbers (step g x e))) (step g x e .machine) es
+    ∙ ap (λ (l : List ℕ). typed l (along g sendings-in (step g x e .machine) es))
+    (shows-typed screen (answered-numbers (step g x e)) ∙ ap (typed screen) (sendings-back g x e))
+    ∙ sym (typed-append screen (step g x e .sendings) (along g sendings-in (step g x e .machine) es))
 
 -- What is committed.
 
@@ -74,6 +87,7 @@ unfolding character
 word-sign (Character k f) = refl
 word-sign (Mark Left) = refl
 word-sign (Mark Right) = refl
+word-sign (Together M K c) = refl
 
 words-back : (l : List Item) → length l ≤ 2 → take (words-of l .items) (words-of l .first ∷ words-of l .second ∷ []) ≡ map word-of l
 words-back [] le = refl
@@ -87,45 +101,46 @@ signs-back (i ∷ []) le = ap (λ (w : List ℕ). w ++ []) (word-sign i)
 signs-back (i ∷ j ∷ []) le = rw (word-sign i, word-sign j, append-nil)
 signs-back (i ∷ j ∷ k ∷ l) le = absurd (omega arith)
 
-grows-all : (line : List ℕ) (x : Machine) (es : List Event)
-    → foldl grows line (map answered-numbers (answers x es)) ≡ line ++ signs (along items-in x es)
-grows-all line x [] = sym (append-nil line)
-grows-all line x (e ∷ es) =
-    grows-all (grows line (answered-numbers (step x e))) (step x e .machine) es
-    ∙ append-assoc line _ (signs (along items-in (step x e .machine) es))
+grows-all : (g : Lent) (line : List ℕ) (x : Machine) (es : List Event)
+    → foldl grows line (map answered-numbers (answers g x es)) ≡ line ++ signs (along g items-in x es)
+grows-all g line x [] = sym (append-nil line)
+grows-all g line x (e ∷ es) =
+    grows-all g (grows line (answered-numbers (step g x e))) (step g x e .machine) es
+    ∙ append-assoc line _ (signs (along g items-in (step g x e .machine) es))
     ∙ ap (λ (l : List ℕ). line ++ l)
-    (ap (λ (l : List ℕ). l ++ signs (along items-in (step x e .machine) es))
-    (signs-back (step x e .items) (step-sizes x e .at-most-2-items))
-    ∙ sym (signs-append (step x e .items) (along items-in (step x e .machine) es)))
+    (ap (λ (l : List ℕ). l ++ signs (along g items-in (step g x e .machine) es))
+    (signs-back (step g x e .items) (step-sizes g x e .at-most-2-items))
+    ∙ sym (signs-append (step g x e .items) (along g items-in (step g x e .machine) es)))
 
 -- The number.
 
-number-back : (f : Flat) (x : Machine) (e : Event) → named f ≡ some x → step-numbers f e .number ≡ step x e .number
+number-back : (g : Lent) (f : Flat) (x : Machine) (e : Event) → named f ≡ some x → step-numbers g f e .number ≡ step g x e .number
 unfolding step-numbers
-number-back f x e h = rw h
+number-back g f x e h = rw h
 
 told-number : (n : ℕ) (d : Option ℤ) → told-numbers n d .number ≡ n
 told-number n none = refl
 told-number n (some z) = refl
 
-asked-back : (f : Flat) (x : Machine) (now : Stamp) → named f ≡ some x → distance-numbers f now .number ≡ asking x now .number
+asked-back : (g : Lent) (f : Flat) (x : Machine) (now : Stamp) → named f ≡ some x
+    → distance-numbers g f now .number ≡ asking g x now .number
 unfolding distance-numbers
-asked-back f x now h = rw h (told-number (asking x now .number) (asking x now .distance))
+asked-back g f x now h = rw h (told-number (asking g x now .number) (asking g x now .distance))
 
-no-machine-2 : (f : Flat) (e : Event) (now : Stamp) → named f ≡ none
-    → (step-numbers f e .number ≡ 2) × (distance-numbers f now .number ≡ 2)
+no-machine-refused : (g : Lent) (f : Flat) (e : Event) (now : Stamp) → named f ≡ none
+    → (step-numbers g f e .number ≡ no-machine-number g) × (distance-numbers g f now .number ≡ no-machine-number g)
 unfolding step-numbers distance-numbers
-no-machine-2 f e now h = (rw h, rw h)
+no-machine-refused g f e now h = (rw h, rw h)
 
-pub host-facts : HostFacts
-host-facts =
+pub host-facts : (g : Lent) → HostFacts g
+host-facts g =
     record {
-      number-back = number-back;
-      asked-back = asked-back;
-      no-machine-2 = no-machine-2;
-      sendings-back = sendings-back;
-      words-back = λ x e. words-back (step x e .items) (step-sizes x e .at-most-2-items);
-      line-is = λ {s} {first} {es} run. ap (foldl grows []) (keyboard-facts .runs run) ∙ grows-all [] (fresh s) es;
+      number-back = number-back g;
+      asked-back = asked-back g;
+      no-machine-refused = no-machine-refused g;
+      sendings-back = sendings-back g;
+      words-back = λ x e. words-back (step g x e .items) (step-sizes g x e .at-most-2-items);
+      line-is = λ {s} {first} {es} run. ap (foldl grows []) (keyboard-facts g .runs run) ∙ grows-all g [] (fresh s) es;
       screen-is = λ {s} {first} {es} run.
-          ap (foldl shows []) (keyboard-facts .runs run) ∙ shows-all [] (fresh s) es ∙ run-shows [] (fresh s) es;
+          ap (foldl shows []) (keyboard-facts g .runs run) ∙ shows-all g [] (fresh s) es ∙ run-shows g [] (fresh s) es;
     }

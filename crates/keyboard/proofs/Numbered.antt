@@ -5,13 +5,12 @@ use mathlib.Core.List.{[], _∷_, cons≢nil}
 use mathlib.Core.Path.{_≡_, refl, sym, ap, _∙_}
 use lib.Dec.{eqb}
 use borrow.Author.Tests.{eqb-true}
-use mir.Val.{boolByte}
 use Rattle.rules.specs.Choice.{if_then_else_}
 use Rattle.rules.specs.ZeroDelay.{sign-unless-0, character, sign-of}
 use Rattle.rules.specs.GivenBack.{Answer}
 use Rattle.rules.specs.declared.Thumb.the-variants.{Left, Right}
 use Rattle.rules.specs.declared.Item.{Item}
-use Rattle.rules.specs.declared.Item.the-variants.{Character, Mark}
+use Rattle.rules.specs.declared.Item.the-variants.{Character, Mark, Together}
 use Rattle.preview.specs.Views.{listed, packed-sendings}
 use Rattle.engine.specs.Views.{Gives}
 use Rattle.engine.specs.declared.Stepped.{Stepped}
@@ -35,6 +34,7 @@ unfolding character
 word-is w (Character k f) h = same-word w (word-of (Character k f)) h
 word-is w (Mark Left) h = same-word w 1 h
 word-is w (Mark Right) h = same-word w 2 h
+word-is w (Together M K c) h = same-word w c h
 
 -- the words of one item and of two
 pub one-word : (v : ℕ) (i : Item) → sign-unless-0 v ≡ sign-of i → record { items = 1; first = v; second = 0 } ≡ words-of (i ∷ [])
@@ -43,11 +43,6 @@ one-word v i e = rw (word-is v i e)
 pub two-words : (v w : ℕ) (i j : Item) → sign-unless-0 v ≡ sign-of i → sign-unless-0 w ≡ sign-of j
     → record { items = 2; first = v; second = w } ≡ words-of (i ∷ j ∷ [])
 two-words v w i j e f = rw (word-is v i e, word-is w j f)
-
--- whether, as a number
-pub yes-or-no : (b : Bool) → boolByte b ≡ (if b then 1 else 0)
-yes-or-no true = refl
-yes-or-no false = refl
 
 -- the engine's answer as numbers
 pub gives-numbers : {f : Flat} {c : Commits} (r : Stepped) {a : Answer} → Gives r a → f ≡ flat (r .machine)

@@ -7,6 +7,7 @@ use lib.Dec.{eqb}
 use lib.IntN.{pos, _-ℤ_}
 use Rattle.rules.specs.Choice.{if_then_else_}
 use Rattle.rules.specs.Numbers.{largest-stamp}
+use Rattle.rules.specs.Pairs.{Lent}
 use Rattle.rules.specs.States.{later}
 use Rattle.rules.specs.DistanceFacts.{IsDue, late-line}
 use Rattle.rules.specs.declared.Stamp.{Stamp}
@@ -47,9 +48,11 @@ with-last f t =
     record {
       last = t;
       m = f .m;
+      k = f .k;
       o = f .o;
       r = f .r;
       held = f .held;
+      second = f .second;
       t = f .t;
       j = f .j;
       l = f .l;
@@ -64,28 +67,28 @@ abbrev pub only-last-numbers : Flat → Stamp → StepAnswer
 only-last-numbers f t = refused-numbers (with-last f t) 0
 
 -- an accepted event that does the line "late" of the machine, and nothing else
-abbrev pub late-numbers : Machine → Stamp → StepAnswer
-late-numbers x t = answered-numbers (late-line x t)
+abbrev pub late-numbers : Lent → Machine → Stamp → StepAnswer
+late-numbers g x t = answered-numbers (late-line g x t)
 
--- Of every numbers f that name a machine x, and every stamp now at which asking is answered.
-pub record DistanceNumbers (f : Flat) (x : Machine) (now : Stamp) : Type 0 where
+-- Of everything lent, every numbers f that name a machine x, and every stamp now at which asking is answered.
+pub record DistanceNumbers (g : Lent) (f : Flat) (x : Machine) (now : Stamp) : Type 0 where
   -- a tick at the asked stamp commits something if and only if the answer is 0 or negative, and what it does is the line "late"
-  pub due-commits : SaysDue (distance-numbers f now) → step-numbers f (tick-at now) .items ≢ 0
-  pub commits-due : step-numbers f (tick-at now) .items ≢ 0 → SaysDue (distance-numbers f now)
-  pub due-is-late : SaysDue (distance-numbers f now) → step-numbers f (tick-at now) ≡ late-numbers x now
+  pub due-commits : SaysDue (distance-numbers g f now) → step-numbers g f (tick-at now) .items ≢ 0
+  pub commits-due : step-numbers g f (tick-at now) .items ≢ 0 → SaysDue (distance-numbers g f now)
+  pub due-is-late : SaysDue (distance-numbers g f now) → step-numbers g f (tick-at now) ≡ late-numbers g x now
   -- asked d milliseconds later, the answer is d less
   pub later-is-less : (d : ℕ) → now .0 + d ≤ largest-stamp
-      → distance-numbers f (later now d) ≡ told-later (distance-numbers f now) d
+      → distance-numbers g f (later now d) ≡ told-later (distance-numbers g f now) d
   -- n milliseconds are left: an accepted tick before that changes only the last stamp, and one at exactly n does the late line
-  pub early-tick : (n : ℕ) → SaysIn (distance-numbers f now) n → (t : Stamp) → t .0 < now .0 + n
-      → step-numbers f (tick-at t) .number ≡ 0
-      → step-numbers f (tick-at t) ≡ only-last-numbers f t
-  pub tick-on-time : (n : ℕ) → SaysIn (distance-numbers f now) n → now .0 + n ≤ largest-stamp
-      → step-numbers f (tick-at (later now n)) ≡ late-numbers x (later now n)
+  pub early-tick : (n : ℕ) → SaysIn (distance-numbers g f now) n → (t : Stamp) → t .0 < now .0 + n
+      → step-numbers g f (tick-at t) .number ≡ 0
+      → step-numbers g f (tick-at t) ≡ only-last-numbers f t
+  pub tick-on-time : (n : ℕ) → SaysIn (distance-numbers g f now) n → now .0 + n ≤ largest-stamp
+      → step-numbers g f (tick-at (later now n)) ≡ late-numbers g x (later now n)
   -- no deadline: no accepted tick changes more than the last stamp
-  pub never-due : SaysNone (distance-numbers f now) → (t : Stamp) → step-numbers f (tick-at t) .number ≡ 0
-      → step-numbers f (tick-at t) ≡ only-last-numbers f t
+  pub never-due : SaysNone (distance-numbers g f now) → (t : Stamp) → step-numbers g f (tick-at t) .number ≡ 0
+      → step-numbers g f (tick-at t) ≡ only-last-numbers f t
 
--- Of all numbers and stamps: asking is refused as a tick with that stamp is.
-abbrev pub SameRefusedNumbers : Flat → Stamp → Type 0
-SameRefusedNumbers f now = distance-numbers f now .number ≡ step-numbers f (tick-at now) .number
+-- Of everything lent, all numbers and stamps: asking is refused as a tick with that stamp is.
+abbrev pub SameRefusedNumbers : Lent → Flat → Stamp → Type 0
+SameRefusedNumbers g f now = distance-numbers g f now .number ≡ step-numbers g f (tick-at now) .number

@@ -1,12 +1,11 @@
 -- What a C host reads off the numbers of a step, and what it makes of them by the rule of include/trabeculon.h: that nothing which
 -- a step sends or commits is lost on the way. The proofs are in proofs/HostScreen.antt.
-use Prim.Native.Nat.{ℕ}
+use Prim.Native.Nat.{ℕ, zero, suc}
 use mathlib.Core.List.{List, [], _∷_, _++_, map, foldl}
 use mathlib.Core.Option.{none, some}
 use mathlib.Core.Path.{_≡_}
-use lib.Dec.{eqb}
-use lib.ListN.{take}
-use Rattle.rules.specs.Choice.{if_then_else_}
+use lib.ListN.{take, replicate}
+use Rattle.rules.specs.Pairs.{Lent}
 use Rattle.rules.specs.ZeroDelay.{sign-unless-0, shown, Sending, backspace, send}
 use Rattle.rules.specs.GivenBack.{step}
 use Rattle.rules.specs.Sequences.{without-last, state, line}
@@ -19,7 +18,7 @@ use Rattle.flat.specs.Fields.{named}
 use Rattle.flat.specs.declared.Flat.{Flat}
 use Rattle.keyboard.specs.declared.OpenAnswer.{OpenAnswer}
 use Rattle.keyboard.specs.declared.StepAnswer.{StepAnswer}
-use Rattle.keyboard.specs.Keyboard.{word-of, answered-numbers, step-numbers, distance-numbers}
+use Rattle.keyboard.specs.Keyboard.{no-machine-number, word-of, answered-numbers, step-numbers, distance-numbers}
 use Rattle.keyboard.specs.KeyboardFacts.{KeyboardRun}
 
 -- those of sent_first, sent_second and sent_third that are not 0
@@ -30,9 +29,14 @@ signs-sent r = sign-unless-0 (r .«sent_first») ++ sign-unless-0 (r .«sent_sec
 abbrev pub signs-committed : StepAnswer → List ℕ
 signs-committed r = sign-unless-0 (r .first) ++ sign-unless-0 (r .second)
 
--- The header's rule, "Show": take the last sign on the screen back if backspace is 1; then add the signs sent.
+-- the last sign taken back, so many times
+abbrev pub taken-back : ℕ → List ℕ → List ℕ
+taken-back zero screen = screen
+taken-back (suc n) screen = taken-back n (without-last screen)
+
+-- The header's rule, "Show": take the last sign on the screen back, as many times as backspaces says; then add the signs sent.
 abbrev pub shows : List ℕ → StepAnswer → List ℕ
-shows screen r = (if eqb (r .backspace) 1 then without-last screen else screen) ++ signs-sent r
+shows screen r = taken-back (r .backspaces) screen ++ signs-sent r
 
 -- and: the committed line grows by the signs committed
 abbrev pub grows : List ℕ → StepAnswer → List ℕ
@@ -47,23 +51,24 @@ host-line rs = foldl grows [] rs
 
 -- what was sent, read off the numbers
 abbrev pub sendings-read : StepAnswer → List Sending
-sendings-read r = (if eqb (r .backspace) 1 then (backspace ∷ []) else []) ++ send (signs-sent r)
+sendings-read r = replicate (r .backspaces) backspace ++ send (signs-sent r)
 
 -- the words of the items, as many as there are items, 0 for an empty face
 abbrev pub words-read : StepAnswer → List ℕ
 words-read r = take (r .items) (r .first ∷ r .second ∷ [])
 
-pub record HostFacts : Type 0 where
-  -- Of numbers that name a machine: the number of an event, and of asking, is document 01's; all others are refused 2.
-  pub number-back : (f : Flat) (x : Machine) (e : Event) → named f ≡ some x → step-numbers f e .number ≡ step x e .number
-  pub asked-back : (f : Flat) (x : Machine) (now : Stamp) → named f ≡ some x → distance-numbers f now .number ≡ asking x now .number
-  pub no-machine-2 : (f : Flat) (e : Event) (now : Stamp) → named f ≡ none
-      → (step-numbers f e .number ≡ 2) × (distance-numbers f now .number ≡ 2)
+-- Of everything lent.
+pub record HostFacts (g : Lent) : Type 0 where
+  -- Of numbers that name a machine: the number of an event, and of asking, is document 01's; all others are refused 2, or 12 first.
+  pub number-back : (f : Flat) (x : Machine) (e : Event) → named f ≡ some x → step-numbers g f e .number ≡ step g x e .number
+  pub asked-back : (f : Flat) (x : Machine) (now : Stamp) → named f ≡ some x → distance-numbers g f now .number ≡ asking g x now .number
+  pub no-machine-refused : (f : Flat) (e : Event) (now : Stamp) → named f ≡ none
+      → (step-numbers g f e .number ≡ no-machine-number g) × (distance-numbers g f now .number ≡ no-machine-number g)
   -- Of every machine and event: the numbers say all that is sent, and the words of all items.
-  pub sendings-back : (x : Machine) (e : Event) → sendings-read (answered-numbers (step x e)) ≡ step x e .sendings
-  pub words-back : (x : Machine) (e : Event) → words-read (answered-numbers (step x e)) ≡ map word-of (step x e .items)
+  pub sendings-back : (x : Machine) (e : Event) → sendings-read (answered-numbers (step g x e)) ≡ step g x e .sendings
+  pub words-back : (x : Machine) (e : Event) → words-read (answered-numbers (step g x e)) ≡ map word-of (step g x e .items)
   -- Of calls from opening on: the host's line is the committed line, and its screen is that line and what is shown behind it.
-  pub line-is : {s : Settings} {first : OpenAnswer} {es : List Event} {rs : List StepAnswer} → KeyboardRun s first es rs
-      → host-line rs ≡ line s es
-  pub screen-is : {s : Settings} {first : OpenAnswer} {es : List Event} {rs : List StepAnswer} → KeyboardRun s first es rs
-      → host-screen rs ≡ line s es ++ shown (state s es .resting)
+  pub line-is : {s : Settings} {first : OpenAnswer} {es : List Event} {rs : List StepAnswer} → KeyboardRun g s first es rs
+      → host-line rs ≡ line g s es
+  pub screen-is : {s : Settings} {first : OpenAnswer} {es : List Event} {rs : List StepAnswer} → KeyboardRun g s first es rs
+      → host-screen rs ≡ line g s es ++ shown (state g s es .resting)

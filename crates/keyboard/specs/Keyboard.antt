@@ -1,5 +1,5 @@
 -- A keyboard that the C host drives: opening, one event and asking for the distance, each as the numbers that the host hands over
--- and gets. The numbers of a machine are `flat`'s.
+-- and gets. The numbers of a machine are `flat`'s. g is what is lent (9/12).
 use Prim.Native.Nat.{ℕ}
 use mathlib.Core.List.{List, map}
 use mathlib.Core.Option.{Option, none, some}
@@ -7,6 +7,7 @@ use lib.IntN.{ℤ, pos}
 use lib.ListN.{length, getD}
 use Rattle.rules.specs.Choice.{if_then_else_}
 use Rattle.rules.specs.Layout.{code-point}
+use Rattle.rules.specs.Pairs.{Lent, lent-good}
 use Rattle.rules.specs.States.{Opening}
 use Rattle.rules.specs.ZeroDelay.{mark-word}
 use Rattle.rules.specs.GivenBack.{Answer, step}
@@ -14,8 +15,9 @@ use Rattle.rules.specs.Distance.{Asking, not-answered, asking}
 use Rattle.rules.specs.declared.Stamp.{Stamp}
 use Rattle.rules.specs.declared.Machine.{Machine}
 use Rattle.rules.specs.declared.Item.{Item}
-use Rattle.rules.specs.declared.Item.the-variants.{Character, Mark}
+use Rattle.rules.specs.declared.Item.the-variants.{Character, Mark, Together}
 use Rattle.rules.specs.declared.Event.{Event}
+use Rattle.pairs.specs.Lent.{lent}
 use Rattle.preview.specs.Views.{packed-sendings}
 use Rattle.preview.specs.declared.Sendings.{Sendings}
 use Rattle.flat.specs.Fields.{flat, named, numbers-of}
@@ -36,10 +38,15 @@ open-numbers o = record { machine = numbers-of (o .machine); number = o .number 
 abbrev pub event-of : ℕ → ℕ → Stamp → Event
 event-of kind key stamp = record { kind = kind; key = record { 0 = key }; stamp = stamp }
 
--- an item as a word: a character's code point, 0 for an empty face; 1 for the left mark, 2 for the right one
+-- what is lent, from the numbers that the host hands over: the list, T_s and N
+abbrev pub lent-of : List ℕ → ℕ → ℕ → Lent
+lent-of pairs ts n = lent pairs (record { ts = ts; n = n })
+
+-- an item as a word: a character's code point, 0 for an empty face; 1 for the left mark, 2 for the right one; a pair's own character
 abbrev pub word-of : Item → ℕ
 word-of (Character k f) = code-point k f
 word-of (Mark O) = mark-word O
+word-of (Together M K c) = c
 
 -- how many items, and their words
 abbrev pub words-of : List Item → Commits
@@ -53,7 +60,7 @@ answer-numbers f n c q =
       items = c .items;
       first = c .first;
       second = c .second;
-      backspace = if q .backspace then 1 else 0;
+      backspaces = q .backspaces;
       «sent_first» = q .signs .first;
       «sent_second» = q .signs .second;
       «sent_third» = q .signs .third;
@@ -72,19 +79,22 @@ refused-numbers f n =
       items = 0;
       first = 0;
       second = 0;
-      backspace = 0;
+      backspaces = 0;
       «sent_first» = 0;
       «sent_second» = 0;
       «sent_third» = 0;
     }
 
--- numbers that name no machine are refused 2
-abbrev pub step-named : Flat → Event → Option Machine → StepAnswer
-step-named f e none = refused-numbers f 2
-step-named f e (some x) = answered-numbers (step x e)
+-- numbers that name no machine are refused 2, but 12 comes first
+abbrev pub no-machine-number : Lent → ℕ
+no-machine-number g = if lent-good g then 2 else 12
 
-unfoldable pub step-numbers : Flat → Event → StepAnswer
-step-numbers f e = step-named f e (named f)
+abbrev pub step-named : Lent → Flat → Event → Option Machine → StepAnswer
+step-named g f e none = refused-numbers f (no-machine-number g)
+step-named g f e (some x) = answered-numbers (step g x e)
+
+unfoldable pub step-numbers : Lent → Flat → Event → StepAnswer
+step-numbers g f e = step-named g f e (named f)
 
 -- Asking.
 
@@ -96,10 +106,10 @@ told-numbers n (some z) = record { number = n; deadline = 1; milliseconds = z }
 abbrev pub asked-numbers : Asking → DistanceAnswer
 asked-numbers a = told-numbers (a .number) (a .distance)
 
--- numbers that name no machine are refused 2
-abbrev pub distance-named : Stamp → Option Machine → DistanceAnswer
-distance-named now none = asked-numbers (not-answered 2)
-distance-named now (some x) = asked-numbers (asking x now)
+-- the same numbers
+abbrev pub distance-named : Lent → Stamp → Option Machine → DistanceAnswer
+distance-named g now none = asked-numbers (not-answered (no-machine-number g))
+distance-named g now (some x) = asked-numbers (asking g x now)
 
-unfoldable pub distance-numbers : Flat → Stamp → DistanceAnswer
-distance-numbers f now = distance-named now (named f)
+unfoldable pub distance-numbers : Lent → Flat → Stamp → DistanceAnswer
+distance-numbers g f now = distance-named g now (named f)

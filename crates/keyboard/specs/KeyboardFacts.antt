@@ -1,13 +1,14 @@
 -- What a C host leans on when it hands a keyboard's numbers from call to call (Keyboard.antt). The proofs are in
 -- proofs/HandedOn.antt.
 use Prim.Native.Nat.{ℕ}
-use mathlib.Core.Bool.{Bool, false}
+use mathlib.Core.Bool.{Bool}
 use mathlib.Core.List.{List, [], _∷_, map}
 use mathlib.Core.Logic.{_≢_}
-use mathlib.Core.Option.{Option, none, some}
+use mathlib.Core.Option.{some}
 use mathlib.Core.Path.{_≡_}
 use Rattle.rules.specs.Numbers.{settings-of}
-use Rattle.rules.specs.States.{fresh, well-formed, opening}
+use Rattle.rules.specs.Pairs.{Lent}
+use Rattle.rules.specs.States.{fresh, opening}
 use Rattle.rules.specs.GivenBack.{Answer, step}
 use Rattle.rules.specs.Sequences.{along, state}
 use Rattle.rules.specs.declared.Stamp.{Stamp}
@@ -15,25 +16,26 @@ use Rattle.rules.specs.declared.Settings.{Settings}
 use Rattle.rules.specs.declared.Machine.{Machine}
 use Rattle.rules.specs.declared.Event.{Event}
 use Rattle.flat.specs.Fields.{named}
+use Rattle.flat.specs.Formed.{names-formed}
 use Rattle.flat.specs.declared.Flat.{Flat}
 use Rattle.keyboard.specs.declared.OpenAnswer.{OpenAnswer}
 use Rattle.keyboard.specs.declared.StepAnswer.{StepAnswer}
 use Rattle.keyboard.specs.Keyboard.{event-of, open-numbers, answered-numbers, refused-numbers, step-numbers}
 
--- Calls of `trabeculon_step`, each with the machine that the one before gave back: what each answers, by the contract of that
--- function in its own words.
-pub data KeyboardCalls : Flat → List Event → List StepAnswer → Type 0 where
-  no-more : {f : Flat} → KeyboardCalls f [] []
+-- Calls of `trabeculon_step`, each with the machine that the one before gave back and with one list, T_s and N lent to all: what each
+-- answers, by the contract of that function in its own words.
+pub data KeyboardCalls (g : Lent) : Flat → List Event → List StepAnswer → Type 0 where
+  no-more : {f : Flat} → KeyboardCalls g f [] []
   call : {f : Flat} {kind key : ℕ} {stamp : Stamp} {r : StepAnswer} {es : List Event} {rs : List StepAnswer}
-      → r ≡ step-numbers f (event-of kind key stamp)
-      → KeyboardCalls (r .machine) es rs
-      → KeyboardCalls f (event-of kind key stamp ∷ es) (r ∷ rs)
+      → r ≡ step-numbers g f (event-of kind key stamp)
+      → KeyboardCalls g (r .machine) es rs
+      → KeyboardCalls g f (event-of kind key stamp ∷ es) (r ∷ rs)
 
 -- What `trabeculon_open` answers for settings s beside number 0, by its contract, and calls from the machine that it gives.
-pub record KeyboardRun (s : Settings) (first : OpenAnswer) (es : List Event) (rs : List StepAnswer) : Type 0 where
+pub record KeyboardRun (g : Lent) (s : Settings) (first : OpenAnswer) (es : List Event) (rs : List StepAnswer) : Type 0 where
   pub opened-as : first ≡ open-numbers (opening (settings-of (s .t) (s .j) (s .l) (s .solo)))
   pub opened-well : first .number ≡ 0
-  pub calls : KeyboardCalls (first .machine) es rs
+  pub calls : KeyboardCalls g (first .machine) es rs
 
 -- the machine that the last call gave back
 abbrev pub last-numbers : Flat → List StepAnswer → Flat
@@ -41,31 +43,29 @@ last-numbers f [] = f
 last-numbers f (r ∷ rs) = last-numbers (r .machine) rs
 
 -- the answers of document 01 along a sequence, from a machine
-abbrev pub answers : Machine → List Event → List Answer
-answers x es = along (λ m e a. a ∷ []) x es
+abbrev pub answers : Lent → Machine → List Event → List Answer
+answers g x es = along g (λ m e a. a ∷ []) x es
 
 -- numbers that name a machine which is well formed: no others are accepted
-abbrev pub formed-named : Option Machine → Bool
-formed-named none = false
-formed-named (some x) = well-formed x
+abbrev pub formed-numbers : Lent → Flat → Bool
+formed-numbers g f = names-formed g (named f)
 
-abbrev pub formed-numbers : Flat → Bool
-formed-numbers f = formed-named (named f)
-
-pub record KeyboardFacts : Type 0 where
+-- Of everything lent.
+pub record KeyboardFacts (g : Lent) : Type 0 where
   -- The numbers that opening gives name the machine that it opened, or none if the settings are refused.
   pub opens : (s : Settings) → named (open-numbers (opening s) .machine) ≡ opening s .machine
   -- The numbers after an event name the machine after it, so calls that hand them on are the steps of one machine.
-  pub steps-on : (f : Flat) (x : Machine) (e : Event) → named f ≡ some x → named (step-numbers f e .machine) ≡ some (step x e .machine)
+  pub steps-on : (f : Flat) (x : Machine) (e : Event) → named f ≡ some x → named (step-numbers g f e .machine) ≡ some (step g x e .machine)
   -- A refused event commits nothing and sends nothing, and the numbers are as given, whatever they are.
-  pub refuses : (f : Flat) (e : Event) → step-numbers f e .number ≢ 0 → step-numbers f e ≡ refused-numbers f (step-numbers f e .number)
+  pub refuses : (f : Flat) (e : Event) → step-numbers g f e .number ≢ 0
+      → step-numbers g f e ≡ refused-numbers f (step-numbers g f e .number)
   -- Calls from a machine that was opened are answered as document 01 answers the same events from a fresh state. Of those answers
   -- demand 3 speaks.
-  pub runs : {s : Settings} {first : OpenAnswer} {es : List Event} {rs : List StepAnswer} → KeyboardRun s first es rs
-      → rs ≡ map answered-numbers (answers (fresh s) es)
+  pub runs : {s : Settings} {first : OpenAnswer} {es : List Event} {rs : List StepAnswer} → KeyboardRun g s first es rs
+      → rs ≡ map answered-numbers (answers g (fresh s) es)
   -- The numbers that the last of them gave back name the state that the events leave.
-  pub names-last : {s : Settings} {first : OpenAnswer} {es : List Event} {rs : List StepAnswer} → KeyboardRun s first es rs
-      → named (last-numbers (first .machine) rs) ≡ some (state s es)
+  pub names-last : {s : Settings} {first : OpenAnswer} {es : List Event} {rs : List StepAnswer} → KeyboardRun g s first es rs
+      → named (last-numbers (first .machine) rs) ≡ some (state g s es)
   -- An event leaves numbers as well formed as they were. So a host may save the numbers of a machine that it was given, and go on
   -- with them later.
-  pub keeps-formed : (f : Flat) (e : Event) → formed-numbers (step-numbers f e .machine) ≡ formed-numbers f
+  pub keeps-formed : (f : Flat) (e : Event) → formed-numbers g (step-numbers g f e .machine) ≡ formed-numbers g f

@@ -4,6 +4,8 @@ use engine::Items;
 use engine::Sendings;
 use flat::Flat;
 use flat::Named;
+use pairs::Times;
+use pairs::lent_good;
 use rules::Event;
 use rules::Key;
 use rules::Machine;
@@ -13,9 +15,11 @@ use rules::Stamp;
 ghost use mathlib.Core.Path.{_≡_};
 ghost use Rattle.rules.specs.States.{opening};
 ghost use Rattle.preview.specs.Views.{listed};
+ghost use Rattle.pairs.specs.Lent.{lent};
 ghost use Rattle.deadlines.specs.Views.{asked};
 ghost use Rattle.rules.specs.Numbers.{settings-of};
 ghost use Rattle.keyboard.specs.Keyboard.{event-of, open-numbers, words-of, answer-numbers, refused-numbers, step-numbers};
+ghost use Rattle.keyboard.specs.Keyboard.{lent-of, no-machine-number};
 ghost use Rattle.keyboard.specs.Keyboard.{asked-numbers, distance-numbers};
 
 // A fresh machine, or refusal 1 and numbers that name no machine.
@@ -25,8 +29,8 @@ pub struct OpenAnswer {
     pub number: u64,
 }
 
-// The machine after an event, the number, how many items are committed, their words, and what is sent: a backspace (1) or
-// none (0), then signs, packed to the front, 0 behind the last.
+// The machine after an event, the number, how many items are committed, their words, and what is sent: so many backspaces, 0 to 2, then
+// signs, packed to the front, 0 behind the last.
 #[repr(C)]
 pub struct StepAnswer {
     pub machine: Flat,
@@ -34,7 +38,7 @@ pub struct StepAnswer {
     pub items: u32,
     pub first: u16,
     pub second: u16,
-    pub backspace: u16,
+    pub backspaces: u16,
     pub sent_first: u16,
     pub sent_second: u16,
     pub sent_third: u16,
@@ -87,24 +91,34 @@ fn answer(machine: Flat, number: u8, words: Commits, sent: Sendings) -> StepAnsw
         items: words.items,
         first: words.first,
         second: words.second,
-        backspace: sent.backspace as u16,
+        backspaces: sent.backspaces as u16,
         sent_first: signs.first,
         sent_second: signs.second,
         sent_third: signs.third,
     }
 }
 
-// Refusal 2, with the numbers as given.
-fn names_none(machine: Flat) -> StepAnswer
-    ensures { λ r. ⌜ r ≡ refused-numbers machine 2 ⌝ }
+// The refusal of numbers that name no machine: 2, but 12 comes first.
+fn no_machine_number(pairs: &[u32], times: Times) -> u32
+    ensures { λ r. ⌜ r ≡ no-machine-number (lent (now (pairs .entry)) times) ⌝ }
+{
+    if lent_good(pairs, times) {
+        return 2;
+    }
+    12
+}
+
+// A refusal, with the numbers as given.
+fn refused(machine: Flat, number: u32) -> StepAnswer
+    ensures { λ r. ⌜ r ≡ refused-numbers machine number ⌝ }
 {
     StepAnswer {
         machine: machine,
-        number: 2,
+        number: number,
         items: 0,
         first: 0,
         second: 0,
-        backspace: 0,
+        backspaces: 0,
         sent_first: 0,
         sent_second: 0,
         sent_third: 0,
@@ -125,6 +139,7 @@ fn distance_answer(answer: Asked) -> DistanceAnswer
     ensures { λ r. ⌜ r ≡ asked-numbers (asked answer) ⌝ }
 {
     match answer {
+        Asked::LentRefused => told(12, 0, 0),
         Asked::NotWellFormed => told(2, 0, 0),
         Asked::AboveLargest => told(4, 0, 0),
         Asked::BeforeLast => told(5, 0, 0),
@@ -156,15 +171,26 @@ pub extern "C" fn trabeculon_open(t: u16, j: u8, l: u8, solo: u8) -> OpenAnswer
     }
 }
 
-// One event at a machine.
+// One event at a machine, with a list of pairs, T_s and N lent.
 #[no_mangle]
-pub extern "C" fn trabeculon_step(machine: Flat, kind: u8, key: u8, stamp: Stamp) -> StepAnswer
-    ensures { λ r. ⌜ r ≡ step-numbers machine (event-of kind key stamp) ⌝ }
+pub extern "C" fn trabeculon_step(
+    pairs: &[u32],
+    ts: u16,
+    n: u8,
+    machine: Flat,
+    kind: u8,
+    key: u8,
+    stamp: Stamp,
+) -> StepAnswer
+    ensures { λ r. ⌜ r ≡ step-numbers (lent-of (now (pairs .entry)) ts n) machine (event-of kind key stamp) ⌝ }
 {
+    let times = Times { ts: ts, n: n };
     match flat::machine_of(machine) {
-        Named::None => names_none(machine),
+        Named::None => refused(machine, no_machine_number(pairs, times)),
         Named::Some(before) => {
             let done = engine::step(
+                pairs,
+                times,
                 before,
                 Event {
                     kind: kind,
@@ -182,11 +208,18 @@ pub extern "C" fn trabeculon_step(machine: Flat, kind: u8, key: u8, stamp: Stamp
 
 // How far the next deadline of a machine lies from a stamp.
 #[no_mangle]
-pub extern "C" fn trabeculon_distance(machine: Flat, stamp: Stamp) -> DistanceAnswer
-    ensures { λ r. ⌜ r ≡ distance-numbers machine stamp ⌝ }
+pub extern "C" fn trabeculon_distance(
+    pairs: &[u32],
+    ts: u16,
+    n: u8,
+    machine: Flat,
+    stamp: Stamp,
+) -> DistanceAnswer
+    ensures { λ r. ⌜ r ≡ distance-numbers (lent-of (now (pairs .entry)) ts n) machine stamp ⌝ }
 {
+    let times = Times { ts: ts, n: n };
     match flat::machine_of(machine) {
-        Named::None => distance_answer(Asked::NotWellFormed),
-        Named::Some(asked) => distance_answer(engine::distance(asked, stamp)),
+        Named::None => told(no_machine_number(pairs, times), 0, 0),
+        Named::Some(asked) => distance_answer(engine::distance(pairs, times, asked, stamp)),
     }
 }

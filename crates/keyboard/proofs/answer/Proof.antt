@@ -1,9 +1,11 @@
 -- `keyboard::answer` meets its contract.
 use borrow.Author.Needs.{needs}
-use Rattle.keyboard.proofs.Numbered.{yes-or-no}
 use Rattle.keyboard.proofs.answer.Statement.{statement}
 use Rattle.keyboard.proofs.answer.Tie as tie
 
 pub answer-spec : {M : Type 1} → statement M
 answer-spec =
-    tie.close (tie.spec (λ c. search needs) (λ c. rw (yes-or-no (c .before .before .args .sent .backspace))))
+    tie.close
+    (tie.spec
+    (λ c. search needs)
+    (λ c. search needs))

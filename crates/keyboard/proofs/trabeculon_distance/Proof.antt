@@ -12,14 +12,21 @@ trabeculon-distance-spec =
     (λ c κs. tt)
     (λ c. search needs)
     (λ c κs. tt)
+    (λ c κs. tt)
     (λ c. search needs)
     (λ c κs. tt)
     (λ c κs. tt)
-    (λ c. rw (← c .before .before .before .machine-of .ensures, c .before .enum-told .given .1, ← c .distance-answer .ensures))
+    (λ c.
+    rw (
+      ← c .before .before .before .before .machine-of .ensures,
+      c .before .before .enum-told .given .1,
+      ← c .before .no-machine-number .ensures,
+      ← c .told .ensures,
+    ))
     (λ c.
     rw (
       ← c .before .before .before .before .before .machine-of .ensures,
       c .before .before .before .asked .given .1,
       ← c .before .distance .ensures,
-      ← c .distance-answer2 .ensures,
+      ← c .distance-answer .ensures,
     )))

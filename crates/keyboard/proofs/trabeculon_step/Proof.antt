@@ -14,12 +14,19 @@ trabeculon-step-spec =
     (λ c κs. tt)
     (λ c. search needs)
     (λ c κs. tt)
+    (λ c κs. tt)
     (λ c. search needs)
     (λ c κs. tt)
     (λ c κs. tt)
     (λ c κs. tt)
     (λ c κs. tt)
-    (λ c. rw (← c .before .before .before .machine-of .ensures, c .before .enum-told .given .1, ← c .names-none .ensures))
+    (λ c.
+    rw (
+      ← c .before .before .before .before .machine-of .ensures,
+      c .before .before .enum-told .given .1,
+      ← c .before .no-machine-number .ensures,
+      ← c .refused .ensures,
+    ))
     (λ c.
     let d = c .before .before .before .before .before in
     rw (← d .before .before .before .before .machine-of .ensures, d .before .before .before2 .given .1)
