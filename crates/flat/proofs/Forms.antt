@@ -171,8 +171,8 @@ module _ (g : Lent) (f : Flat) where
           ≡ (in-range (settings-named f) && at-or-before (f .last) (at largest-stamp) && held-formed (f .held) && there o)
       go none = sym (and-false (in-range (settings-named f) && at-or-before (f .last) (at largest-stamp) && held-formed (f .held)))
       go (some x) =
-          shuffle (in-range (settings-named f)) (keys-below x) (stamps-by (f .last) x) (at-or-before (f .last) (at largest-stamp)) (in-order x)
-          (held-formed (f .held)) (pair-lent g x)
+          shuffle (in-range (settings-named f)) (keys-below x) (stamps-by (f .last) x)
+          (at-or-before (f .last) (at largest-stamp)) (in-order x) (held-formed (f .held)) (pair-lent g x)
 
 -- The machine that is named.
 module _ (f : Flat) (x : Machine) where

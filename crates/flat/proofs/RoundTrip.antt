@@ -36,7 +36,8 @@ with-resting s last h x = record { settings = s; resting = x; last = last; held 
 
 module _ (s : Settings) (last : Stamp) (h : ℕ) where
   rests-back : (x : Resting) → SecondFits x → resting-named (flat (with-resting s last h x)) ≡ some x
-  unfolding flat resting-named thumb-number no-character no-second second-fits no-thumb no-release as-S1 as-S2 as-S3 as-S4 as-S5 as-S6 as-S7 as-S8
+  unfolding flat resting-named thumb-number no-character no-second second-fits no-thumb no-release as-S1 as-S2 as-S3
+      as-S4 as-S5 as-S6 as-S7 as-S8
   rests-back S1 _ = refl
   rests-back (S2 M m) _ = refl
   rests-back (S3 Left o) _ = refl
@@ -324,19 +325,27 @@ module _ (f : Flat) where
 
   fits-3 : AllFound (as-S3 f)
   unfolding as-S3
-  fits-3 = if-tested (no-character f && no-second f && no-release f) (with-thumb f (λ O. S3 O (f .o))) (λ _. any-thumb (λ O. S3 O (f .o)) (λ _. tt))
+  fits-3 =
+      if-tested (no-character f && no-second f && no-release f) (with-thumb f (λ O. S3 O (f .o)))
+      (λ _. any-thumb (λ O. S3 O (f .o)) (λ _. tt))
 
   fits-4 : AllFound (as-S4 f)
   unfolding as-S4
-  fits-4 = if-tested (no-second f && no-release f) (with-thumb f (λ O. S4 (character f) (f .m) O (f .o))) (λ _. any-thumb (λ O. S4 (character f) (f .m) O (f .o)) (λ _. tt))
+  fits-4 =
+      if-tested (no-second f && no-release f) (with-thumb f (λ O. S4 (character f) (f .m) O (f .o)))
+      (λ _. any-thumb (λ O. S4 (character f) (f .m) O (f .o)) (λ _. tt))
 
   fits-5 : AllFound (as-S5 f)
   unfolding as-S5
-  fits-5 = if-tested (no-second f && no-release f) (with-thumb f (λ O. S5 O (f .o) (character f) (f .m))) (λ _. any-thumb (λ O. S5 O (f .o) (character f) (f .m)) (λ _. tt))
+  fits-5 =
+      if-tested (no-second f && no-release f) (with-thumb f (λ O. S5 O (f .o) (character f) (f .m)))
+      (λ _. any-thumb (λ O. S5 O (f .o) (character f) (f .m)) (λ _. tt))
 
   fits-6 : AllFound (as-S6 f)
   unfolding as-S6
-  fits-6 = if-tested (no-second f) (with-thumb f (λ O. S6 O (f .o) (character f) (f .m) (f .r))) (λ _. any-thumb (λ O. S6 O (f .o) (character f) (f .m) (f .r)) (λ _. tt))
+  fits-6 =
+      if-tested (no-second f) (with-thumb f (λ O. S6 O (f .o) (character f) (f .m) (f .r)))
+      (λ _. any-thumb (λ O. S6 O (f .o) (character f) (f .m) (f .r)) (λ _. tt))
 
   fits-7 : AllFound (as-S7 f)
   unfolding as-S7 second-fits

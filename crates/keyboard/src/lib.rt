@@ -174,10 +174,10 @@ pub extern "C" fn trabeculon_open(t: u16, j: u8, l: u8, solo: u8) -> OpenAnswer
 // One event at a machine, with a list of pairs, T_s and N lent.
 #[no_mangle]
 pub extern "C" fn trabeculon_step(
+    machine: Flat,
     pairs: &[u32],
     ts: u16,
     n: u8,
-    machine: Flat,
     kind: u8,
     key: u8,
     stamp: Stamp,
@@ -209,10 +209,10 @@ pub extern "C" fn trabeculon_step(
 // How far the next deadline of a machine lies from a stamp.
 #[no_mangle]
 pub extern "C" fn trabeculon_distance(
+    machine: Flat,
     pairs: &[u32],
     ts: u16,
     n: u8,
-    machine: Flat,
     stamp: Stamp,
 ) -> DistanceAnswer
     ensures { λ r. ⌜ r ≡ distance-numbers (lent-of (now (pairs .entry)) ts n) machine stamp ⌝ }
