@@ -34,9 +34,10 @@ extern "C" {
  * to be looked at and compiled again: it goes up by 1 when what a function
  * takes or answers changes, the fields of a struct, or what a number means, and
  * stays where only words change or a function is added. Version 1 had no such
- * macro. Version 2 has held keys (request 7/12) and a type for stamps.
+ * macro. Version 2 has held keys (request 7/12) and a type for stamps. Version
+ * 3 has two letters as a chord (request 9/12).
  */
-#define TRABECULON_VERSION 2
+#define TRABECULON_VERSION 3
 
 /* The kinds of events, in a log and of a live keyboard. */
 #define TRABECULON_CHARACTER_DOWN 1
@@ -61,6 +62,8 @@ extern "C" {
 #define TRABECULON_S4 4
 #define TRABECULON_S5 5
 #define TRABECULON_S6 6
+#define TRABECULON_S7 7
+#define TRABECULON_S8 8
 
 /*
  * The numbers given back: 0, and the refusals. Each function gives some of
@@ -78,6 +81,7 @@ extern "C" {
 #define TRABECULON_LOG_TOO_LONG 9    /* only in pieces */
 #define TRABECULON_ON_NO_FACE 10     /* a drill's character */
 #define TRABECULON_TOO_MANY_HELD 11  /* a new key while 6 are held */
+#define TRABECULON_PAIRS_REFUSED 12  /* the list of pairs, T_s or N */
 
 /*
  * A moment of the keyboard's own clock, in milliseconds. It has a type of its
@@ -235,26 +239,40 @@ trabeculon_drill trabeculon_write_drill(uint16_t t, uint8_t j, uint8_t l,
  *
  *   - Once: trabeculon_open with the settings.
  *   - On each event of the keyboard: trabeculon_step with the machine, the
- *     event and its stamp. The machine of the answer takes the place of the old
- *     one, whatever the number; a refused step hands back the one that was
- *     given. Downs that the hardware repeats while a key is held are handed
- *     over like all others.
- *   - Show: take the last sign on the screen back if backspace is 1; then add
- *     those of sent_first, sent_second and sent_third that are not 0.
+ *     list of pairs, the event and its stamp. The machine of the answer takes
+ *     the place of the old one, whatever the number; a refused step hands back
+ *     the one that was given. Downs that the hardware repeats while a key is
+ *     held are handed over like all others.
+ *   - Show: take the last sign on the screen back, as many times as backspaces
+ *     says; then add those of sent_first, sent_second and sent_third that are
+ *     not 0.
  *   - The committed line grows by those of first and second that are not 0.
  *     They are on the screen already and are not to be shown once more: after
- *     every step the screen is the committed line and behind it the character
- *     that waits, if one does (one whose face is empty shows nothing).
- *   - Then: trabeculon_distance with the machine and a stamp of the keyboard:
- *     the event's if it was accepted, else the machine's own last, since asking
- *     is refused where a tick with that stamp would be. If number is 0 and
- *     there is a deadline, arrange a tick for when it is due: in so many
- *     milliseconds, or at once if the answer is 0 or negative. A tick is a step
- *     with kind 6, key 0 and the stamp of the keyboard's clock at that time.
- *     One too early or too many does no harm. Nor does a late one or a missing
- *     one, but that signs come late, since every event first does what is due
- *     before it. No stamp may run ahead of the keyboard's clock, or the
- *     keyboard's next event comes before it and is refused 5.
+ *     every step the screen is the committed line and behind it the characters
+ *     that wait, none, one or two (one whose face is empty shows nothing).
+ *   - Then: trabeculon_distance with the machine, the same list and a stamp of
+ *     the keyboard: the event's if it was accepted, else the machine's own
+ *     last, since asking is refused where a tick with that stamp would be. If
+ *     number is 0 and there is a deadline, arrange a tick for when it is due:
+ *     in so many milliseconds, or at once if the answer is 0 or negative. A
+ *     tick is a step with kind 6, key 0 and the stamp of the keyboard's clock
+ *     at that time. One too early or too many does no harm. Nor does a late one
+ *     or a missing one, but that signs come late, since every event first does
+ *     what is due before it. No stamp may run ahead of the keyboard's clock, or
+ *     the keyboard's next event comes before it and is refused 5.
+ *
+ * The list of pairs (request 9/12) is lent with every call and not kept: two
+ * character keys pressed together give a third character. A pair is one number
+ * of 32 bits, the four bytes of a log's record, high byte first: key, key,
+ * character (2 bytes). Up to 64 pairs, in any order, and in a pair the keys in
+ * any order; no pair twice, no key with itself, keys below 31, the character
+ * U+0020 to U+FFFF and no surrogate; ts, T_s in milliseconds, 50 to 1,000; n, N
+ * in percent, 1 to 99. Anything else is refused 12, before all other numbers.
+ * A host without pairs lends a list of length 0, with any ts and n in range,
+ * and all is as if there were no pairs. With no pairs the pointer is not read,
+ * but it must not be null. What is said below of calls one after another has
+ * one list, ts and n in all of them. With another list, two letters that wait
+ * and are no pair of it are no well-formed machine: 2.
  *
  * All stamps are of the keyboard's own clock, never of the host's; a host's
  * time is no trabeculon_stamp. The host keeps the machine. Nothing is kept here
@@ -278,15 +296,17 @@ trabeculon_drill trabeculon_write_drill(uint16_t t, uint8_t j, uint8_t l,
 
 /*
  * A machine as numbers: a keyboard's settings, its last accepted stamp, the
- * character keys that are held and what it waits with. M is a character key, O
- * a thumb.
+ * character keys that are held and what it waits with. M is a character key, K
+ * a second one, O a thumb.
  *
  * last     the last accepted stamp; 0 in a fresh machine
- * m        when M was pressed: states 2, 4, 5, 6
+ * m        when M was pressed: states 2, 4, 5, 6, 7, 8
+ * k        when K was pressed: states 7, 8
  * o        when O was pressed: states 3, 4, 5, 6
- * r        when O was released: state 6
+ * r        when O was released: state 6; when M was released: state 8
  * held     bit k, counted from the lowest as bit 0, is 1 if key k is held: it
  *          went down and not up since, in accepted events. 0 in a fresh machine
+ * second   K, 0 to 30: states 7, 8
  * t, j, l, the settings T, J, L and solo, as trabeculon_open was given them
  * solo
  * state    1  nothing
@@ -295,28 +315,33 @@ trabeculon_drill trabeculon_write_drill(uint16_t t, uint8_t j, uint8_t l,
  *          4  M, then O
  *          5  O, then M
  *          6  O, then M, then O was released
- * key      M, 0 to 30: states 2, 4, 5, 6
+ *          7  M, then K, a pair of the list
+ *          8  M, then K, then M was released
+ * key      M, 0 to 30: states 2, 4, 5, 6, 7, 8
  * thumb    O, 0 left, 1 right: states 3, 4, 5, 6
  *
  * A host keeps these numbers and hands them on. It may look into them, and it
  * may save them and go on later. Any numbers may be handed over; those that are
  * no machine are refused:
  *
- * They name a machine if state is 1 to 6, thumb is 0 or 1 in the states that
- * use it, every one of m, o, r, key and thumb that the state does not use is 0,
- * and held is below 2^32. That machine is well formed if the settings are in
- * range, key is below 31, every stamp that the state uses is at most last, last
- * is at most 1,000,000,000,000, m <= o in state 4, o <= m in state 5, o <= m <=
- * r in state 6, and in held bits 31 and up are 0 and at most 6 are 1. Numbers
- * that name no machine, or one that is not well formed, are refused 2. The
- * machine that trabeculon_open answers beside number 0 is well formed, and an
- * accepted event leaves every well-formed machine well formed, however the host
- * came by it; so numbers that were saved go on without a 2. That M is held is
- * not asked, but in every machine that calls from opening on lead to it is.
+ * They name a machine if state is 1 to 8, thumb is 0 or 1 in the states that
+ * use it, second is below 256 in states 7 and 8, and every one of m, k, o, r,
+ * key, second and thumb that the state does not use is 0. That machine is well
+ * formed if the settings are in range, key and second are below 31, every stamp
+ * that the state uses is at most last, last is at most 1,000,000,000,000,
+ * m <= o in state 4, o <= m in state 5, o <= m <= r in state 6, m <= k in state
+ * 7, m <= k <= r in state 8, in held bit 31 is 0 and at most 6 are 1, and in
+ * states 7 and 8 M and K are a pair of the list. Numbers that name no machine,
+ * or one that is not well formed, are refused 2. The machine that
+ * trabeculon_open answers beside number 0 is well formed, and an accepted event
+ * leaves every well-formed machine well formed, however the host came by it; so
+ * numbers that were saved go on without a 2, with the same list. That M is held
+ * is not asked, nor that K is, but in every machine that calls from opening on
+ * lead to they are, M in state 8 apart.
  *
- * It is 48 bytes with no padding, so two can be compared byte for byte.
+ * It is 56 bytes with no padding, so two can be compared byte for byte.
  *
- * Proved: every machine whose held set has 32 bits, as all here have, has one
+ * Proved: every machine whose K is a number of 8 bits, as all here are, has one
  * form in numbers, which names it (LosesNothing and AllFit,
  * flat/specs/LosesNothing.antt); events keep it well formed (keeps-formed in
  * KeyboardFacts, keyboard/specs/KeyboardFacts.antt); held is a set of keys, and
@@ -325,15 +350,17 @@ trabeculon_drill trabeculon_write_drill(uint16_t t, uint8_t j, uint8_t l,
  * is held as its accepted downs and ups say, M is held, and at most 6 are
  * (HeldInSequences, rules/specs/HeldRules.antt). Which bit is whose is said by
  * the definitions is-held (rules/specs/Held.antt) and flat
- * (flat/specs/Fields.antt). Tested: the 48 bytes (below, and
+ * (flat/specs/Fields.antt). Tested: the 56 bytes (below, and
  * tests/c/live_keyboard.c).
  */
 typedef struct {
     trabeculon_stamp last;
     trabeculon_stamp m;
+    trabeculon_stamp k;
     trabeculon_stamp o;
     trabeculon_stamp r;
-    uint64_t held;
+    uint32_t held;
+    uint32_t second;
     uint16_t t;
     uint8_t j;
     uint8_t l;
@@ -371,6 +398,7 @@ trabeculon_opened trabeculon_open(uint16_t t, uint8_t j, uint8_t l, uint8_t solo
  * machine      beside 0: the machine after the event. Beside any other number:
  *              the one that was given, byte for byte, even if it is none.
  * number       0  accepted
+ *              12 the list of pairs, ts or n is not accepted
  *              2  the numbers name no machine, or one that is not well formed
  *              3  kind or key not allowed
  *              4  stamp above the largest, 1,000,000,000,000
@@ -378,13 +406,14 @@ trabeculon_opened trabeculon_open(uint16_t t, uint8_t j, uint8_t l, uint8_t solo
  *              11 a press of a new key while 6 are held
  *              They are tried in this order; the first that holds is given.
  * items        how many items the event commits, 0 to 2. An item is a
- *              character, one whose face is empty too, or a mark.
+ *              character, one whose face is empty too, a mark, or the
+ *              character of a pair.
  * first,       the items' words, in order: a character's code point, 1 for the
  * second       left mark, 2 for the right mark, 0 for an empty face. 0 also
  *              where there is no such item.
- * backspace    1 if the last sign on the screen is to be taken back first, else
- *              0. That sign is the character that waited, never a committed
- *              one.
+ * backspaces   how many of the last signs on the screen are to be taken back
+ *              first, 0 to 2. They are characters that waited, never committed
+ *              ones.
  * sent_first,  the signs to be shown then, in order, as words like the items'.
  * sent_second, There are 0 to 3 of them; behind the last stands 0.
  * sent_third
@@ -398,7 +427,7 @@ typedef struct {
     uint32_t items;
     uint16_t first;
     uint16_t second;
-    uint16_t backspace;
+    uint16_t backspaces;
     uint16_t sent_first;
     uint16_t sent_second;
     uint16_t sent_third;
@@ -434,13 +463,16 @@ typedef struct {
  * the words of a log: words-are in LogSequence (keylog/specs/LogSequence.antt)
  * and line-is in HostFacts both speak of the line of the same events.
  */
-trabeculon_stepped trabeculon_step(trabeculon_machine machine, uint8_t kind,
+trabeculon_stepped trabeculon_step(trabeculon_machine machine,
+                                   const uint32_t *pairs, size_t pairs_len,
+                                   uint16_t ts, uint8_t n, uint8_t kind,
                                    uint8_t key, trabeculon_stamp stamp);
 
 /*
  * What asking for the distance answers.
  *
  * number        0  answered
+ *               12 the list of pairs, ts or n is not accepted
  *               2  the numbers name no machine, or one that is not well formed
  *               4  stamp above the largest, 1,000,000,000,000
  *               5  stamp before the last accepted one
@@ -473,6 +505,8 @@ typedef struct {
  * keyboard/specs/DistanceNumbers.antt).
  */
 trabeculon_asked trabeculon_distance(trabeculon_machine machine,
+                                     const uint32_t *pairs, size_t pairs_len,
+                                     uint16_t ts, uint8_t n,
                                      trabeculon_stamp stamp);
 
 /*
@@ -655,12 +689,12 @@ trabeculon_piece_read trabeculon_reader_end(trabeculon_reader reader);
 TRABECULON_SIZE(trabeculon_stamp, 8);
 TRABECULON_SIZE(trabeculon_answer, 24);
 TRABECULON_SIZE(trabeculon_drill, 24);
-TRABECULON_SIZE(trabeculon_machine, 48);
-TRABECULON_SIZE(trabeculon_opened, 56);
-TRABECULON_SIZE(trabeculon_stepped, 72);
+TRABECULON_SIZE(trabeculon_machine, 56);
+TRABECULON_SIZE(trabeculon_opened, 64);
+TRABECULON_SIZE(trabeculon_stepped, 80);
 TRABECULON_SIZE(trabeculon_asked, 16);
-TRABECULON_SIZE(trabeculon_reader, 104);
-TRABECULON_SIZE(trabeculon_piece_read, 128);
+TRABECULON_SIZE(trabeculon_reader, 112);
+TRABECULON_SIZE(trabeculon_piece_read, 136);
 #undef TRABECULON_SIZE
 
 #ifdef __cplusplus
