@@ -19,7 +19,7 @@ ghost use Rattle.writer.specs.Writes.{Writes};
 ghost use Rattle.host.specs.Face.{told};
 ghost use Rattle.host.specs.Drills.{drilled};
 ghost use Rattle.host.specs.InPieces.{fresh-numbers, accepted, GivesPiece, GivesEnd};
-ghost use Rattle.keyboard.specs.Keyboard.{event-of, open-numbers, step-numbers, distance-numbers};
+ghost use Rattle.keyboard.specs.Keyboard.{lent-of, event-of, open-numbers, step-numbers, distance-numbers};
 
 #[no_mangle]
 pub extern "C" fn trabeculon_read_log(log: &[u8], out: &mut [u8]) -> Answer
@@ -75,15 +75,29 @@ pub extern "C" fn trabeculon_open(t: u16, j: u8, l: u8, solo: u8) -> OpenAnswer
 }
 
 #[no_mangle]
-pub extern "C" fn trabeculon_step(machine: Flat, kind: u8, key: u8, stamp: Stamp) -> StepAnswer
-    ensures { λ r. ⌜ r ≡ step-numbers machine (event-of kind key stamp) ⌝ }
+pub extern "C" fn trabeculon_step(
+    machine: Flat,
+    pairs: &[u32],
+    ts: u16,
+    n: u8,
+    kind: u8,
+    key: u8,
+    stamp: Stamp,
+) -> StepAnswer
+    ensures { λ r. ⌜ r ≡ step-numbers (lent-of (now (pairs .entry)) ts n) machine (event-of kind key stamp) ⌝ }
 {
-    keyboard::trabeculon_step(machine, kind, key, stamp)
+    keyboard::trabeculon_step(machine, pairs, ts, n, kind, key, stamp)
 }
 
 #[no_mangle]
-pub extern "C" fn trabeculon_distance(machine: Flat, stamp: Stamp) -> DistanceAnswer
-    ensures { λ r. ⌜ r ≡ distance-numbers machine stamp ⌝ }
+pub extern "C" fn trabeculon_distance(
+    machine: Flat,
+    pairs: &[u32],
+    ts: u16,
+    n: u8,
+    stamp: Stamp,
+) -> DistanceAnswer
+    ensures { λ r. ⌜ r ≡ distance-numbers (lent-of (now (pairs .entry)) ts n) machine stamp ⌝ }
 {
-    keyboard::trabeculon_distance(machine, stamp)
+    keyboard::trabeculon_distance(machine, pairs, ts, n, stamp)
 }
