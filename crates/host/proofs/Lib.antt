@@ -1,3 +1,2 @@
-pub mod ReadersBack
 pub mod InPieces
 pub mod InPiecesFacts

@@ -1,14 +1,12 @@
-// A log that arrives in pieces, for the console's C host. The reader goes in and comes out as numbers, and nothing is kept here.
+// A log that arrives in pieces, for the console's C host. The reader goes in and comes out as numbers (crate pieces), and nothing is kept
+// here.
 use crate::Answer;
-use crate::readers::FlatReader;
-use crate::readers::NamedReader;
-use crate::readers::numbers_of;
-use crate::readers::reader_of;
-use pieces::Fed;
+use pieces::FedNumbers;
+use pieces::FlatReader;
 ghost use mathlib.Core.Path.{_≡_};
 ghost use Rattle.host.specs.Face.{told};
-ghost use Rattle.host.specs.Readers.{reader-numbers};
-ghost use Rattle.host.specs.InPieces.{fresh-numbers, accepted, refused-2, GivesPiece, GivesEnd};
+ghost use Rattle.pieces.specs.Readers.{accepted};
+ghost use Rattle.host.specs.InPieces.{fresh-numbers, GivesPiece, GivesEnd};
 
 // The reader after a call, and what the call answers.
 #[repr(C)]
@@ -17,30 +15,15 @@ pub struct PieceRead {
     pub answer: Answer,
 }
 
-// Refusal 2, with the numbers as given.
-fn refused(reader: FlatReader) -> PieceRead
-    ensures { λ r. ⌜ r ≡ refused-2 reader ⌝ }
-{
-    PieceRead {
-        reader: reader,
-        answer: Answer {
-            number: 2,
-            waiting: 0,
-            words: 0,
-            offset: 0,
-        },
-    }
-}
-
-// What a call gives, as numbers.
-fn handed_back(fed: Fed) -> PieceRead
-    ensures { λ r. ⌜ r .reader ≡ reader-numbers (fed .reader) ⌝ }
+// What a call gives, for C.
+fn handed_back(fed: FedNumbers) -> PieceRead
+    ensures { λ r. ⌜ r .reader ≡ fed .reader ⌝ }
     ensures { λ r. ⌜ told (r .answer) ≡ fed .answer ⌝ }
 {
     let reader = fed.reader;
     let answer = fed.answer;
     PieceRead {
-        reader: numbers_of(reader),
+        reader: reader,
         answer: crate::numbers(answer),
     }
 }
@@ -72,10 +55,7 @@ pub extern "C" fn trabeculon_reader_piece(
 ) -> PieceRead
     ensures { λ r. ⌜ GivesPiece reader (now (piece .entry)) (now (out .entry)) (accepted reader) r (now (out .exit)) ⌝ }
 {
-    match reader_of(reader) {
-        NamedReader::None => refused(reader), // nothing is read
-        NamedReader::Some(before) => handed_back(pieces::feed_packed(before, piece, out)),
-    }
+    handed_back(pieces::feed_numbers(reader, piece, out))
 }
 
 // The log has ended.
@@ -83,8 +63,5 @@ pub extern "C" fn trabeculon_reader_piece(
 pub extern "C" fn trabeculon_reader_end(reader: FlatReader) -> PieceRead
     ensures { λ r. ⌜ GivesEnd reader (accepted reader) r ⌝ }
 {
-    match reader_of(reader) {
-        NamedReader::None => refused(reader),
-        NamedReader::Some(before) => handed_back(pieces::end_log(before)),
-    }
+    handed_back(pieces::end_numbers(reader))
 }
