@@ -3,9 +3,12 @@
 //! that a repeat and an up of a key not held give what a tick gives, and what is held
 //! after an event.
 
+use trabeculon_model::lists::right_lent;
 use trabeculon_model::live::{at, step_numbers, Flat, Stepped, Wrong};
 use trabeculon_model::log::{log_of, play, read_log};
-use trabeculon_model::model::{step, Event, Held, Machine, Resting, Thumb, KEYS, LARGEST_STAMP};
+use trabeculon_model::model::{
+    step, step_with, Event, Held, Machine, Resting, Thumb, KEYS, LARGEST_STAMP,
+};
 use trabeculon_model::notation::sendings_text;
 use trabeculon_model::random::Random;
 use trabeculon_model::states::{bit, random_event, random_stamp, right_state};
@@ -171,20 +174,23 @@ fn check_as_ticks() -> Result<(), String> {
     let mut random = Random::new(9);
     let (mut repeats, mut ups, mut accepted) = (0, 0, 0);
     for _ in 0..STATES {
-        let flat = right_state(&mut random);
-        let machine = flat.machine(Wrong::default()).map_err(|n| format!("{flat:?}: {n}"))?;
-        let stamp = random_stamp(&mut random, &flat);
-        let tick = step(&machine, Event { kind: 6, key: 0, stamp });
+        let lent = right_lent(&mut random);
+        let flat = right_state(&mut random, &lent);
+        let machine = flat.machine_with(&lent, Wrong::default());
+        let machine = machine.map_err(|n| format!("{flat:?}: {n}"))?;
+        let stamp = random_stamp(&mut random, &lent, &flat);
+        let tick = step_with(&lent, &machine, Event { kind: 6, key: 0, stamp });
         for key in 0..KEYS {
             let held = machine.held.has(key);
             let kind = if held { 1 } else { 2 };
             let what = format!("kind {kind}, key {key}, stamp {stamp} of {flat:?}");
-            expect(&what, step(&machine, Event { kind, key, stamp }), tick.clone())?;
+            let stepped = step_with(&lent, &machine, Event { kind, key, stamp });
+            expect(&what, stepped, tick.clone())?;
             repeats += u64::from(held);
             ups += u64::from(!held);
         }
-        let event = random_event(&mut random, &flat);
-        if let Ok(step) = step(&machine, event) {
+        let event = random_event(&mut random, &lent, &flat);
+        if let Ok(step) = step_with(&lent, &machine, event) {
             let right = |key: u8| match (event.kind, event.key == key) {
                 (1, true) => true,
                 (2, true) => false,

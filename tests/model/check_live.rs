@@ -1,10 +1,11 @@
 //! Request 3/12 tried on the model: the distance, its refusals and that it says when
 //! a tick commits; the machine as numbers, and the states that the tests make.
 
+use trabeculon_model::lists::right_lent;
 use trabeculon_model::live::{
     at as stamp, distance, open, step_numbers, Asked, Flat, Opened, Stepped, Wrong,
 };
-use trabeculon_model::model::{step, Event, Machine, Resting, Settings, Thumb, LARGEST_STAMP};
+use trabeculon_model::model::{step_with, Event, Machine, Resting, Settings, Thumb, LARGEST_STAMP};
 use trabeculon_model::random::Random;
 use trabeculon_model::states::{bit, broken_state, nameless_state, random_stamp, right_state};
 
@@ -110,11 +111,12 @@ const STATES: u64 = 50_000;
 fn check_ticks() -> Result<(), String> {
     let mut random = Random::new(5);
     for _ in 0..STATES {
-        let flat = right_state(&mut random);
-        let machine = flat.machine(Wrong::default()).map_err(|n| format!("{flat:?}: {n}"))?;
-        let stamp = random_stamp(&mut random, &flat);
-        let asked = machine.distance(stamp);
-        let stepped = step(&machine, Event { kind: 6, key: 0, stamp });
+        let lent = right_lent(&mut random);
+        let flat = right_state(&mut random, &lent);
+        let machine = flat.machine_with(&lent, RIGHT).map_err(|n| format!("{flat:?}: {n}"))?;
+        let stamp = random_stamp(&mut random, &lent, &flat);
+        let asked = machine.distance_with(&lent, stamp);
+        let stepped = step_with(&lent, &machine, Event { kind: 6, key: 0, stamp });
         let right = match asked {
             Err(number) => Err(number),
             Ok(Some(i64::MIN..=0)) => Ok(Resting::S1),
@@ -122,7 +124,7 @@ fn check_ticks() -> Result<(), String> {
         };
         let what = format!("a tick at {stamp} in {machine:?}");
         expect(&what, stepped.map(|step| step.machine.resting), right)?;
-        let later = machine.distance(stamp.saturating_add(1));
+        let later = machine.distance_with(&lent, stamp.saturating_add(1));
         if let (Ok(now), Ok(later)) = (asked, later) {
             expect("one ms later", later, now.map(|now| now - 1))?;
         }
@@ -174,15 +176,15 @@ fn nameless(waiting: Flat) -> [Flat; 10] {
     let at_50 = stamp(50);
     [
         Flat::default(),
-        Flat { state: 7, ..waiting },
+        Flat { state: 9, ..waiting },
         Flat { state: 255, ..waiting },
         Flat { o: stamp(1), ..waiting },
         Flat { r: stamp(u64::MAX), ..waiting },
         Flat { thumb: 1, ..waiting },
         Flat { state: 4, o: at_50, thumb: 2, ..waiting },
         Flat { state: 5, o: at_50, r: at_50, ..waiting },
-        Flat { held: bit(30) | 1 << 32, ..waiting },
-        Flat { held: 1 << 63, ..waiting },
+        Flat { second: 24, ..waiting },
+        Flat { k: stamp(1), ..waiting },
     ]
 }
 
@@ -199,7 +201,7 @@ fn check_slower(fresh: Flat) -> Result<(), String> {
     let plain = Stepped { machine: s3, items: 1, first: ka, ..none };
     let end = Flat { last: stamp(900), ..fresh };
     let chord = Stepped { machine: end, items: 1, first: ga, ..none };
-    let chord = Stepped { backspace: 1, sent_first: ga, ..chord };
+    let chord = Stepped { backspaces: 1, sent_first: ga, ..chord };
     let up = |stamp, stepped| ((2, 21, stamp), stepped, Asked::default());
     check_lines("4/12", fresh, &[down, thumb, up(899, plain)])?;
     check_lines("4/12", fresh, &[down, thumb, up(900, chord)])
@@ -215,7 +217,7 @@ fn check_p9(fresh: Flat) -> Result<(), String> {
     let s6 = Flat { state: 6, r: at_60, last: at_60, ..s5 };
     // The key is held still when its character is committed.
     let s1 = Flat { last: at_80, held: bit(21), ..fresh };
-    let end = Stepped { items: 2, first: mark, second: ka, backspace: 1, ..none };
+    let end = Stepped { items: 2, first: mark, second: ka, backspaces: 1, ..none };
     let end = Stepped { sent_first: mark, sent_second: ka, ..end };
     let asked = |milliseconds| Asked { number: 0, deadline: 1, milliseconds };
     let lines = [
@@ -248,11 +250,13 @@ fn check_lines(name: &str, mut flat: Flat, lines: &[Line]) -> Result<(), String>
 fn check_states() -> Result<(), String> {
     let mut random = Random::new(6);
     for _ in 0..STATES {
-        let flat = right_state(&mut random);
-        let back = flat.machine(RIGHT).map(|machine| Flat::of(flat.raw_settings(), &machine));
+        let lent = right_lent(&mut random);
+        let flat = right_state(&mut random, &lent);
+        let back = flat.machine_with(&lent, RIGHT);
+        let back = back.map(|machine| Flat::of(flat.raw_settings(), &machine));
         expect("a right state", back, Ok(flat))?;
-        for flat in [broken_state(&mut random), nameless_state(&mut random)] {
-            expect(&format!("{flat:?}"), flat.machine(RIGHT).err(), Some(2))?;
+        for flat in [broken_state(&mut random, &lent), nameless_state(&mut random, &lent)] {
+            expect(&format!("{flat:?}"), flat.machine_with(&lent, RIGHT).err(), Some(2))?;
         }
     }
     println!("states: {STATES} right ones, as many broken and nameless ones are refused 2");

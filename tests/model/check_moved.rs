@@ -3,11 +3,13 @@
 //! move treats a fresh state.
 
 use trabeculon_model::generate::{due, open, random_events, right_settings};
+use trabeculon_model::lists::right_lent;
 use trabeculon_model::log::{log_of, play};
-use trabeculon_model::model::{step, Event, Item, Machine, Sending, Settings, LARGEST_STAMP};
+use trabeculon_model::model::{step_with, Event, Item, Machine, Sending, Settings, LARGEST_STAMP};
 use trabeculon_model::moved::{
     log_stamps, moved_event, moved_log, moved_machine, moved_stamp, moves, stays,
 };
+use trabeculon_model::pairs::{Lent, NO_PAIRS};
 use trabeculon_model::random::Random;
 
 use crate::worked::EXAMPLES;
@@ -21,14 +23,15 @@ pub fn check_all() -> Result<(), String> {
         let (t, j, l, solo) = example.settings;
         let text: Vec<&str> = example.lines.iter().map(|(keystroke, ..)| *keystroke).collect();
         let events = keystrokes(&text.join(" "))?;
-        check_moves(&mut random, settings(t, j, l, solo)?, &events)
+        check_moves(&mut random, &example.lent(), settings(t, j, l, solo)?, &events)
             .map_err(|what| format!("{}, {what}", example.name))?;
     }
     for _ in 0..SEQUENCES {
         let fresh = open(right_settings(&mut random)).ok_or("settings refused")?;
+        let lent = right_lent(&mut random);
         let count = random.place(40);
-        let events = random_events(&mut random, fresh, count, true);
-        check_moves(&mut random, fresh.settings, &events)?;
+        let events = random_events(&mut random, &lent, fresh, count, true);
+        check_moves(&mut random, &lent, fresh.settings, &events)?;
     }
     println!("moved clock: examples, 01's log, {SEQUENCES} random sequences keep their text");
     Ok(())
@@ -37,30 +40,36 @@ pub fn check_all() -> Result<(), String> {
 const SEQUENCES: u64 = 10_000;
 
 /// A sequence moved in several ways.
-fn check_moves(random: &mut Random, settings: Settings, events: &[Event]) -> Result<(), String> {
+fn check_moves(
+    random: &mut Random,
+    lent: &Lent,
+    settings: Settings,
+    events: &[Event],
+) -> Result<(), String> {
     let stamps: Vec<u64> = events.iter().map(|event| event.stamp).collect();
     moves(random, &stamps).into_iter().try_for_each(|(_, k)| {
-        check_moved(settings, events, k)
-            .map_err(|what| format!("moved by {k}: {what}\n{settings:?} {events:?}"))
+        check_moved(lent, settings, events, k)
+            .map_err(|what| format!("moved by {k}: {what}\n{settings:?} {lent:?} {events:?}"))
     })
 }
 
 /// The same numbers, items and sendings at each event, the same states but for their
 /// stamps, and the same distance asked at a stamp that moves too.
-fn check_moved(settings: Settings, events: &[Event], k: u64) -> Result<(), String> {
+fn check_moved(lent: &Lent, settings: Settings, events: &[Event], k: u64) -> Result<(), String> {
     let mut machine = Machine::fresh(settings);
     let (mut moved, mut accepted) = (machine, false);
     for event in events {
-        let after = told(&mut moved, moved_event(*event, k));
-        let before = told(&mut machine, *event);
+        let after = told_with(lent, &mut moved, moved_event(*event, k));
+        let before = told_with(lent, &mut machine, *event);
         accepted |= before.is_ok();
         expect("what is told", after, before)?;
         let right = if accepted { moved_machine(&machine, k) } else { machine };
         expect("the state", moved, right)?;
-        let stamps = [event.stamp, machine.last, due(&machine).unwrap_or(0)];
+        let stamps = [event.stamp, machine.last, due(lent, &machine).unwrap_or(0)];
         for stamp in stamps.into_iter().filter(|stamp| stays(*stamp, k)) {
-            let after = moved.distance(moved_stamp(stamp, k));
-            expect(&format!("the distance at {stamp}"), after, machine.distance(stamp))?;
+            let after = moved.distance_with(lent, moved_stamp(stamp, k));
+            let before = machine.distance_with(lent, stamp);
+            expect(&format!("the distance at {stamp}"), after, before)?;
         }
     }
     Ok(())
@@ -70,7 +79,11 @@ type Told = Result<(Vec<Item>, Vec<Sending>), u32>;
 
 /// Steps on; what is given back besides the state.
 fn told(machine: &mut Machine, event: Event) -> Told {
-    let step = step(machine, event)?;
+    told_with(&NO_PAIRS, machine, event)
+}
+
+fn told_with(lent: &Lent, machine: &mut Machine, event: Event) -> Told {
+    let step = step_with(lent, machine, event)?;
     *machine = step.machine;
     Ok((step.items, step.sendings))
 }

@@ -2,15 +2,17 @@
 //! the whole log says; and every sentence of the request by an example.
 
 use trabeculon_model::live::{at, Flat};
-use trabeculon_model::log::{log_of, read_log, Answer, RawSettings};
+use trabeculon_model::log::{log_of, log_with, read_log, Answer, Before, RawSettings};
+use trabeculon_model::pairs::NO_PAIRS;
 use trabeculon_model::pieces::{
-    end_numbers, fresh_numbers, piece_numbers, FlatReader, Reader, Wrong, LONGEST_LOG,
+    end_numbers, fresh_numbers, piece_numbers, FlatReader, Kept, Reader, Wrong, LONGEST_LOG,
 };
 use trabeculon_model::random::Random;
 use trabeculon_model::readers::{random_call, random_cut};
 use trabeculon_model::states::bit;
 
 use crate::check_held::SEVENTH;
+use crate::check_pairs;
 use crate::worked::EXAMPLES;
 use crate::{answer, expect, keystrokes, SAIGAI};
 
@@ -33,10 +35,11 @@ fn worked_logs() -> Result<Vec<Vec<u8>>, String> {
     logs.push(log_of(usual, &keystrokes(SAIGAI)?));
     logs.push(log_of(usual, &keystrokes(SEVENTH)?));
     for example in &EXAMPLES {
-        let (t, j, l, solo) = example.settings;
         let text: String = example.lines.iter().map(|line| format!("{} ", line.0)).collect();
-        logs.push(log_of((t as u16, j as u8, l as u8, solo as u8), &keystrokes(&text)?));
+        let lent = Some(example.lent()).filter(|lent| *lent != NO_PAIRS);
+        logs.push(log_with(example.raw_settings(), lent.as_ref(), &keystrokes(&text)?));
     }
+    logs.extend(check_pairs::list_logs()?);
     // Settings out of range, met again and missing; tag, length, kind, stamp.
     let damages = [(5, 0), (8, 1), (0, 2), (8, 9), (10, 9), (10, 11), (9, 255), (11, 7), (13, 1)];
     let whole = logs[3].clone();
@@ -74,7 +77,7 @@ fn check_cut(log: &[u8], pieces: &[usize]) -> Result<(), String> {
     let mut came = 0;
     for length in pieces {
         let before = reader.words;
-        let mut run = [0; 40];
+        let mut run = vec![0; 40 + length / 5];
         let got = reader.piece(RIGHT, &log[came..came + length], &mut run);
         came += length;
         line.extend(&run[..(got.words - before) as usize]);
@@ -138,7 +141,8 @@ fn check_limit() -> Result<(), String> {
     let at = |left: u64| {
         let mut reader = Reader::fresh();
         reader.piece(RIGHT, &log[..26], &mut []);
-        Reader { offset: LONGEST_LOG - left - 5, ..reader }
+        let before = Before { offset: LONGEST_LOG - left - 5, ..reader.before };
+        Reader { before, ..reader }
     };
     let limit = LONGEST_LOG;
     let mut full = at(8);
@@ -177,17 +181,20 @@ fn check_numbers() -> Result<(), String> {
         (34, FlatReader { machine: ended, offset: 34, words: 1, ..fresh }),
     ];
     for (length, right) in after {
-        let got = piece_numbers(RIGHT, &fresh, &log[..length], &mut [0; 9]);
-        expect(&format!("after {length} bytes"), got.reader, right)?;
+        let mut kept = Kept::from(fresh);
+        piece_numbers(RIGHT, &mut kept, &log[..length], &mut [0; 9]);
+        expect(&format!("after {length} bytes"), kept, right.into())?;
     }
     let bytes = [0x02, 0, 10, 1, 21, 0, 0, 0, 0, 0, 0, 1, 2];
     let long = [&[9, 0, 14][..], &bytes].concat();
-    let got = piece_numbers(RIGHT, &fresh, &long, &mut []).reader;
+    let mut kept = Kept::from(fresh);
+    piece_numbers(RIGHT, &mut kept, &long, &mut []);
     let right = FlatReader { count: 16, header: 0x09_000e, front: 0x0200, ..fresh };
-    expect("13 bytes are kept", got, FlatReader { tail: 0x0a01_1500_0000_0000, ..right })?;
-    let told = FlatReader { told: 1, number: 6, ..begun };
-    let got = piece_numbers(RIGHT, &told, &log, &mut [0; 9]);
-    expect("told", (got.reader, got.answer), (told, answer(6, 0, 21, 1)))?;
+    expect("13 bytes are kept", kept.reader, FlatReader { tail: 0x0a01_1500_0000_0000, ..right })?;
+    let told = Kept::from(FlatReader { told: 1, number: 6, ..begun });
+    let mut kept = told;
+    let got = piece_numbers(RIGHT, &mut kept, &log, &mut [0; 9]);
+    expect("told", (kept, got), (told, answer(6, 0, 21, 1)))?;
     println!("pieces: the reader as numbers byte by byte");
     Ok(())
 }
@@ -201,13 +208,15 @@ fn check_readers() -> Result<(), String> {
     let mut refused = 0;
     for _ in 0..READERS {
         let call = random_call(&mut random);
-        let piece = piece_numbers(RIGHT, &call.reader, &call.piece, &mut vec![0; call.room]);
-        for read in [piece, end_numbers(RIGHT, &call.reader)] {
-            let formed = call.reader.reader(RIGHT).is_some();
-            let right = if formed { read.reader.reader(RIGHT).is_some() } else { false };
-            expect(&format!("{:?}, handed back", call.reader), right, formed)?;
-            let given = (call.reader, answer(2, 0, 0, 0));
-            expect("refused 2", (read.reader, read.answer) == given, !formed)?;
+        let formed = call.kept.reader(RIGHT).is_some();
+        let (mut pieced, mut ended) = (call.kept, call.kept);
+        let piece = piece_numbers(RIGHT, &mut pieced, &call.piece, &mut vec![0; call.room]);
+        let end = end_numbers(RIGHT, &mut ended);
+        for (kept, got) in [(pieced, piece), (ended, end)] {
+            let right = if formed { kept.reader(RIGHT).is_some() } else { false };
+            expect(&format!("{:?}, handed back {kept:?}", call.kept), right, formed)?;
+            let given = (call.kept, answer(2, 0, 0, 0));
+            expect("refused 2", (kept, got) == given, !formed)?;
             refused += u64::from(!formed);
         }
     }

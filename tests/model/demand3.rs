@@ -1,15 +1,17 @@
-//! Demand 3 of the model, tried on sequences of events: the five sentences with
-//! the words that document 01 gives them, checked after every event.
+//! Demand 3 of the model, tried on sequences of events with one list lent (9/12): the
+//! five sentences with the words that document 01 gives them, checked after every event.
 
 use crate::generate::{next_stamp, random_events};
 use crate::model::{
-    shown, sign, step, Event, Item, Machine, Sending, Settings, Sign, Step, KEYS, LARGEST_STAMP,
-    MOST_HELD,
+    shown, sign, step_with, Event, Item, Machine, Resting, Sending, Settings, Sign, Step, KEYS,
+    LARGEST_STAMP, MOST_HELD,
 };
+use crate::pairs::Lent;
 use crate::random::Random;
 
 /// A sequence so far: the machine and all that came of it.
-struct Run {
+struct Run<'a> {
+    lent: &'a Lent,
     machine: Machine,
     /// Key and stamp of every accepted down of a key not held (7/12).
     presses: Vec<(u8, u64)>,
@@ -18,15 +20,15 @@ struct Run {
     screen: Vec<Sign>,
 }
 
-impl Run {
-    fn new(settings: Settings) -> Run {
+impl Run<'_> {
+    fn new(lent: &Lent, settings: Settings) -> Run<'_> {
         let machine = Machine::fresh(settings);
-        Run { machine, presses: vec![], items: vec![], line: vec![], screen: vec![] }
+        Run { lent, machine, presses: vec![], items: vec![], line: vec![], screen: vec![] }
     }
 
     /// Takes one event and checks all that must hold then.
     fn take(&mut self, event: Event) -> Result<(), String> {
-        match step(&self.machine, event) {
+        match step_with(self.lent, &self.machine, event) {
             Err(number) => {
                 expect([3, 4, 5, 11].contains(&number), "a run is refused 3, 4, 5 or 11 only")?;
             }
@@ -35,16 +37,19 @@ impl Run {
         self.keys_in_order()?;
         self.within_longest_wait()?;
         let held = self.machine.held;
-        expect(self.machine.waiting().is_none_or(|key| held.has(key)), "a waiting key is held")?;
+        expect(self.held_while_waiting(), "a waiting key is held, but for M in S8")?;
         expect(held.count() <= MOST_HELD, "at most 6 keys are held")?;
-        let seen = [&self.line[..], shown(&self.machine.resting).as_slice()].concat();
+        let seen = [&self.line[..], &shown(&self.machine.resting)].concat();
         expect(self.screen == seen, "the screen is the line and what is shown")
     }
 
     fn add(&mut self, event: Event, step: Step) -> Result<(), String> {
         expect(step.items.len() <= 2, "a step commits 0 to 2")?;
         expect(step.sendings.len() <= 4, "at most 4 sendings a step")?;
-        expect(step.machine.well_formed(), "a step leaves a well-formed state")?;
+        expect(step.machine.well_formed_with(self.lent), "a step leaves a well-formed state")?;
+        let late = self.machine.late_lines(self.lent, event.stamp);
+        expect(late <= 1, "no late line follows another")?;
+        expect(self.as_the_list_gives(&step.items), "a pair's character is its list's")?;
         self.send(&step.sendings)?;
         if event.kind == 1 && !self.machine.held.has(event.key) {
             self.presses.push((event.key, event.stamp));
@@ -74,12 +79,27 @@ impl Run {
         Ok(())
     }
 
-    /// Keys of the committed characters.
-    fn committed(&self) -> impl Iterator<Item = u8> + '_ {
-        self.items.iter().filter_map(|item| match item {
-            Item::Character { key, .. } => Some(*key),
-            Item::Mark(_) => None,
+    fn held_while_waiting(&self) -> bool {
+        let held = |key| self.machine.held.has(key);
+        match self.machine.resting {
+            Resting::S8 { key, second, .. } => !held(key) && held(second),
+            _ => self.machine.waiting().all(held),
+        }
+    }
+
+    fn as_the_list_gives(&self, items: &[Item]) -> bool {
+        items.iter().all(|item| match *item {
+            Item::Together { first, second, character } => {
+                let pair = self.lent.pairs.iter().find(|pair| pair.is_of(first, second));
+                pair.is_some_and(|pair| pair.character == character)
+            }
+            _ => true,
         })
+    }
+
+    /// Keys of the committed characters, both of a pair's.
+    fn committed(&self) -> impl Iterator<Item = u8> + '_ {
+        self.items.iter().flat_map(|item| item.keys())
     }
 
     fn keys_in_order(&self) -> Result<(), String> {
@@ -89,7 +109,7 @@ impl Run {
     }
 
     fn within_longest_wait(&self) -> Result<(), String> {
-        let w = self.machine.settings.longest_wait();
+        let w = self.machine.settings.longest_wait_with(self.lent);
         let unanswered = self.presses.iter().skip(self.committed().count());
         let in_time = unanswered.into_iter().all(|(_, stamp)| self.machine.last < stamp + w);
         expect(in_time, "a press is committed within W")
@@ -105,17 +125,17 @@ fn expect(holds: bool, what: &str) -> Result<(), String> {
 }
 
 /// One random sequence: every sentence after every event, and the ticks.
-pub fn check_random(random: &mut Random, settings: Settings) -> Result<(), String> {
+pub fn check_random(random: &mut Random, lent: &Lent, settings: Settings) -> Result<(), String> {
     let count = random.place(40);
-    let events = random_events(random, Machine::fresh(settings), count, true);
-    let all = check(settings, &events)?;
-    check_ticks(random, settings, &events).map_err(|what| format!("{what}: {events:?}"))?;
+    let events = random_events(random, lent, Machine::fresh(settings), count, true);
+    let all = check(lent, settings, &events)?;
+    check_ticks(random, lent, settings, &events).map_err(|what| format!("{what}: {events:?}"))?;
     expect(all.machine.last <= LARGEST_STAMP, "the last stamp is at most the largest")
 }
 
 /// Every sentence but that about ticks, over one sequence.
-fn check(settings: Settings, events: &[Event]) -> Result<Run, String> {
-    let mut run = Run::new(settings);
+fn check<'a>(lent: &'a Lent, settings: Settings, events: &[Event]) -> Result<Run<'a>, String> {
+    let mut run = Run::new(lent, settings);
     for event in events {
         run.take(*event).map_err(|what| format!("{what}: {events:?}"))?;
     }
@@ -124,15 +144,20 @@ fn check(settings: Settings, events: &[Event]) -> Result<Run, String> {
 
 /// Ticks do not matter: the same key events with no tick, with many ticks and
 /// with refused events between, all ended by the same tick, commit the same.
-fn check_ticks(random: &mut Random, settings: Settings, events: &[Event]) -> Result<(), String> {
-    let keys = accepted_keys(settings, events);
+fn check_ticks(
+    random: &mut Random,
+    lent: &Lent,
+    settings: Settings,
+    events: &[Event],
+) -> Result<(), String> {
+    let keys = accepted_keys(lent, settings, events);
     let last = keys.last().map_or(0, |event| event.stamp);
-    // The last is beyond every wait.
-    let stamps = [last, last + random.below(1_200), last + 200_000];
+    let beyond = last + settings.longest_wait_with(lent);
+    let stamps = [last, last + random.below(1_200), beyond];
     let end = tick(random.pick(&stamps).min(LARGEST_STAMP));
     let bare = [&keys[..], &[end]].concat();
-    let full = with_ticks(random, settings, &bare);
-    let same = check(settings, &bare)?.items == check(settings, &full)?.items;
+    let full = with_ticks(random, lent, settings, &bare);
+    let same = check(lent, settings, &bare)?.items == check(lent, settings, &full)?.items;
     expect(same, "ticks do not matter")
 }
 
@@ -141,11 +166,11 @@ fn tick(stamp: u64) -> Event {
 }
 
 /// The accepted key events of a sequence.
-fn accepted_keys(settings: Settings, events: &[Event]) -> Vec<Event> {
+fn accepted_keys(lent: &Lent, settings: Settings, events: &[Event]) -> Vec<Event> {
     let mut machine = Machine::fresh(settings);
     let mut keys = vec![];
     for event in events {
-        if let Ok(step) = step(&machine, *event) {
+        if let Ok(step) = step_with(lent, &machine, *event) {
             machine = step.machine;
             if event.kind <= 5 {
                 keys.push(*event);
@@ -156,18 +181,23 @@ fn accepted_keys(settings: Settings, events: &[Event]) -> Vec<Event> {
 }
 
 /// The same events with ticks and refused events put between them.
-fn with_ticks(random: &mut Random, settings: Settings, events: &[Event]) -> Vec<Event> {
+fn with_ticks(
+    random: &mut Random,
+    lent: &Lent,
+    settings: Settings,
+    events: &[Event],
+) -> Vec<Event> {
     let mut machine = Machine::fresh(settings);
     let mut full = vec![];
     for event in events {
         for _ in 0..random.below(4) {
             let extra = match random.below(4) {
                 0 => Event { kind: 1, key: refused_key(&machine), stamp: event.stamp },
-                _ => tick(next_stamp(random, &machine).min(event.stamp)),
+                _ => tick(next_stamp(random, lent, &machine).min(event.stamp)),
             };
-            push(&mut machine, &mut full, extra);
+            push(lent, &mut machine, &mut full, extra);
         }
-        push(&mut machine, &mut full, *event);
+        push(lent, &mut machine, &mut full, *event);
     }
     full
 }
@@ -179,9 +209,9 @@ fn refused_key(machine: &Machine) -> u8 {
 }
 
 /// Adds an event to a sequence and takes it with the sequence's machine.
-fn push(machine: &mut Machine, events: &mut Vec<Event>, event: Event) {
+fn push(lent: &Lent, machine: &mut Machine, events: &mut Vec<Event>, event: Event) {
     events.push(event);
-    if let Ok(step) = step(machine, event) {
+    if let Ok(step) = step_with(lent, machine, event) {
         *machine = step.machine;
     }
 }

@@ -2,15 +2,19 @@
 //! rule turns, a fixed set damaged at every place, long typed ones, and typing
 //! without end.
 
-use crate::log::{event_record, log_of, read_log, settings_record, RawSettings};
+use crate::lists::{boundary_lists, right_lent, wrong_lent};
+use crate::log::{
+    event_record, list_record, log_of, log_with, read_log, settings_record, split, RawSettings,
+    HEADER, SETTINGS_LENGTH,
+};
 use crate::model::{
-    step, Event, Machine, Resting, Settings, Thumb, KEYS, LARGEST_STAMP, LEAST_T, MOST_HELD,
+    step_with, Event, Machine, Resting, Settings, Thumb, KEYS, LARGEST_STAMP, LEAST_T, MOST_HELD,
     MOST_T, SHORT_OVERLAP,
 };
 use crate::notation;
+use crate::pairs::{pair, Lent, Pair, NO_PAIRS};
 use crate::random::Random;
 
-const SETTINGS_LENGTH: usize = 8;
 const EVENT_LENGTH: usize = 13;
 
 /// A log and the length of the byte run that it is read into.
@@ -40,12 +44,18 @@ fn random_log(random: &mut Random) -> Vec<u8> {
     let raw = if random.once_in(24) { wrong_settings(random) } else { right_settings(random) };
     let count = random_count(random);
     let refusals = random.once_in(4);
+    let list = match random.below(24) {
+        0..=9 => None,
+        10 => Some(wrong_lent(random).0),
+        _ => Some(right_lent(random)),
+    };
+    let lent = list.as_ref().filter(|list| list.good(None)).unwrap_or(&NO_PAIRS);
     // After refused settings there is no machine; any will do to go on with.
     let events = match open(raw) {
-        Some(machine) => random_events(random, machine, count, refusals),
+        Some(machine) => random_events(random, lent, machine, count, refusals),
         None => vec![Event { kind: 1, key: 21, stamp: 0 }; count.min(3)],
     };
-    log_of(raw, &events)
+    log_with(raw, list.as_ref(), &events)
 }
 
 /// A fresh machine, if the settings are in range.
@@ -73,7 +83,7 @@ pub fn right_settings(random: &mut Random) -> RawSettings {
     (t, percent(random), percent(random), random.pick(&[0, 1]))
 }
 
-fn percent(random: &mut Random) -> u8 {
+pub fn percent(random: &mut Random) -> u8 {
     match random.below(4) {
         0 => random.between(1, 99) as u8,
         _ => random.pick(&[1, 2, 33, 50, 50, 60, 70, 98, 99]),
@@ -96,15 +106,16 @@ pub fn wrong_settings(random: &mut Random) -> RawSettings {
 /// it left, so that stamps can be chosen around its deadline.
 pub fn random_events(
     random: &mut Random,
+    lent: &Lent,
     mut machine: Machine,
     count: usize,
     refusals: bool,
 ) -> Vec<Event> {
-    let hands = Hands::random(random);
+    let hands = Hands::random(random, lent);
     let mut events = Vec::with_capacity(count);
     for _ in 0..count {
-        let event = next_event(random, &machine, &hands, refusals);
-        if let Ok(step) = step(&machine, event) {
+        let event = next_event(random, lent, &machine, &hands, refusals);
+        if let Ok(step) = step_with(lent, &machine, event) {
             machine = step.machine;
         }
         events.push(event);
@@ -121,10 +132,18 @@ pub struct Hands {
 
 impl Hands {
     /// Few keys, so that they are often pressed again; or many, as where a keyboard
-    /// ghosts, and more fingers than may be held.
-    pub fn random(random: &mut Random) -> Hands {
+    /// ghosts, and more fingers than may be held. Where there are pairs, mostly keys of
+    /// some of them.
+    pub fn random(random: &mut Random, lent: &Lent) -> Hands {
         let (keys, fingers) = random.pick(&[(3, 0), (3, 1), (3, 2), (9, 7)]);
-        Hands { keys: (0..keys).map(|_| random.below(KEYS.into()) as u8).collect(), fingers }
+        let mut keys: Vec<u8> = (0..keys).map(|_| random.below(KEYS.into()) as u8).collect();
+        for places in keys.chunks_mut(2).filter(|_| !lent.pairs.is_empty()) {
+            let Pair { first, second, .. } = random.pick(&lent.pairs);
+            if !random.once_in(6) {
+                places.iter_mut().zip([first, second]).for_each(|(place, key)| *place = key);
+            }
+        }
+        Hands { keys, fingers }
     }
 
     fn ghosts(&self) -> bool {
@@ -134,48 +153,123 @@ impl Hands {
 
 /// An event for the machine: one that it accepts or, if asked for and only now and
 /// then, one that it refuses.
-pub fn next_event(random: &mut Random, machine: &Machine, hands: &Hands, refusals: bool) -> Event {
+pub fn next_event(
+    random: &mut Random,
+    lent: &Lent,
+    machine: &Machine,
+    hands: &Hands,
+    refusals: bool,
+) -> Event {
     let full = machine.held.count() == MOST_HELD;
     // Ghosts are to come as far as a seventh key.
     let rare = if full { 3 } else { 10 + 30 * u64::from(hands.ghosts()) };
     if refusals && random.once_in(rare) {
-        refused_event(random, machine)
+        refused_event(random, lent, machine)
     } else {
-        accepted_event(random, machine, hands)
+        accepted_event(random, lent, machine, hands)
     }
 }
 
 /// Character keys, both thumbs, the function key and ticks.
-fn accepted_event(random: &mut Random, machine: &Machine, hands: &Hands) -> Event {
+fn accepted_event(random: &mut Random, lent: &Lent, machine: &Machine, hands: &Hands) -> Event {
     if random.once_in(4) {
-        if let Some(event) = turning_event(random, machine, hands) {
+        if let Some(event) = turning_event(random, lent, machine, hands) {
             return event;
         }
     }
-    if let Some(event) = held_event(random, machine, hands) {
+    if !lent.pairs.is_empty() && random.once_in(3) {
+        if let Some(event) = pair_event(random, lent, machine, hands) {
+            return event;
+        }
+    }
+    if let Some(event) = held_event(random, lent, machine, hands) {
         return event;
     }
     let thumb = random.pick(&[0, 1]);
     let (kind, key) = match random.below(20) {
         0..=5 => (1, pressed(random, machine, hands)),
         6..=9 => {
-            (2, machine.waiting().filter(|_| !random.once_in(4)).unwrap_or(any(random, hands)))
+            let waiting: Vec<u8> = machine.waiting().collect();
+            let other = waiting.is_empty() || random.once_in(4);
+            (2, if other { any(random, hands) } else { random.pick(&waiting) })
         }
         10..=14 => (3, thumb),
         15..=16 => (4, thumb),
         17 => (5, 0),
         _ => (6, 0),
     };
-    Event { kind, key, stamp: next_stamp(random, machine) }
+    Event { kind, key, stamp: next_stamp(random, lent, machine) }
+}
+
+/// While a letter waits that is in some pair: another letter of it, soon or just before
+/// the deadline. While two wait: a third key or a release, at or beside the stamp where
+/// its rule turns: equal gaps, where the overlap has its share of the whole (by N, L or
+/// both), and T_s.
+fn pair_event(random: &mut Random, lent: &Lent, machine: &Machine, hands: &Hands) -> Option<Event> {
+    let last = machine.last;
+    let up_to = |share: u64, percent: u64| (100 * share).div_ceil(percent.max(1));
+    let (_, _, l, _) = machine.settings.numbers();
+    let (kind, key, stamp) = match machine.resting {
+        Resting::S2 { key, m } => {
+            let soon = last + random.below(60);
+            let late = due(lent, machine)?.saturating_sub(random.between(1, 40));
+            let equal = last + (last - m);
+            let partner = partner(random, lent, machine, key)?;
+            (1, partner, random.pick(&[last, soon, soon, late, equal]))
+        }
+        Resting::S7 { key, m, second, k } => {
+            let (n, gap) = (u64::from(lent.n), k - m);
+            let share = k + (n * gap).div_ceil(100 - n);
+            let soon = k + random.below(gap.max(1));
+            match random.below(8) {
+                0 | 1 => third(random, lent, machine, hands, second, k + gap)?,
+                2 => (3, random.pick(&[0, 1]), k + gap),
+                3 => (2, second, random.pick(&[share, k + u64::from(lent.ts), soon])),
+                _ => (2, key, random.pick(&[share, soon, soon, k + u64::from(lent.ts)])),
+            }
+        }
+        Resting::S8 { m, second, k, r, .. } => {
+            let by_l = k + up_to(r - k, l.into());
+            let by_n = k + up_to(r - k, lent.n.into());
+            match random.below(8) {
+                0 | 1 => third(random, lent, machine, hands, second, k + (k - m))?,
+                2 => (3, random.pick(&[0, 1]), k + (k - m)),
+                _ => (2, second, random.pick(&[by_l, by_l, by_n, r])),
+            }
+        }
+        _ => return None,
+    };
+    Some(Event { kind, key, stamp: beside(random, machine, stamp) })
+}
+
+/// A third letter that is a pair with the second, or any new one.
+fn third(
+    random: &mut Random,
+    lent: &Lent,
+    machine: &Machine,
+    hands: &Hands,
+    second: u8,
+    stamp: u64,
+) -> Option<(u8, u8, u64)> {
+    let partner = partner(random, lent, machine, second).filter(|_| random.once_in(2));
+    Some((1, partner.or_else(|| new_key(random, machine, hands))?, stamp))
+}
+
+/// A key that is a pair with this one and may be pressed.
+fn partner(random: &mut Random, lent: &Lent, machine: &Machine, key: u8) -> Option<u8> {
+    let pairs = lent.pairs.iter().filter(|pair| pair.has(key));
+    let others = pairs.map(|pair| if pair.first == key { pair.second } else { pair.first });
+    let others: Vec<u8> = others.filter(|other| !machine.held.has(*other)).collect();
+    let may = machine.held.count() < MOST_HELD && !others.is_empty();
+    may.then(|| random.pick(&others))
 }
 
 /// What comes of keys that are held besides the one that waits: one of them goes up,
 /// where the hands hold no more; or further ones go down with the last, as ghosts do.
-fn held_event(random: &mut Random, machine: &Machine, hands: &Hands) -> Option<Event> {
-    let besides: Vec<u8> =
-        machine.held.keys().filter(|key| machine.waiting() != Some(*key)).collect();
+fn held_event(random: &mut Random, lent: &Lent, machine: &Machine, hands: &Hands) -> Option<Event> {
+    let besides: Vec<u8> = machine.held.keys().filter(|key| !machine.waits(*key)).collect();
     if besides.len() > hands.fingers && random.once_in(2) {
-        let stamp = next_stamp(random, machine);
+        let stamp = next_stamp(random, lent, machine);
         return Some(Event { kind: 2, key: random.pick(&besides), stamp });
     }
     let ghosts = hands.ghosts() && machine.held.count() > 0 && random.once_in(3);
@@ -219,10 +313,16 @@ fn pressed(random: &mut Random, machine: &Machine, hands: &Hands) -> u8 {
 /// An event at or beside the stamp where its own rule turns: equal gaps in S4
 /// and S5, 400 ms in both, and in S5 the longest wait that leads on to S4. In S2
 /// and S3 one that leads on to a long wait, in which 400 ms may come up.
-fn turning_event(random: &mut Random, machine: &Machine, hands: &Hands) -> Option<Event> {
-    let deadline = due(machine).unwrap_or(machine.last);
+fn turning_event(
+    random: &mut Random,
+    lent: &Lent,
+    machine: &Machine,
+    hands: &Hands,
+) -> Option<Event> {
+    let deadline = due(lent, machine).unwrap_or(machine.last);
     let (kind, key, stamp) = match machine.resting {
         Resting::S1 | Resting::S6 { .. } => return None,
+        Resting::S7 { .. } | Resting::S8 { .. } => return pair_event(random, lent, machine, hands),
         Resting::S2 { .. } => {
             (3, random.pick(&[0, 1]), deadline.saturating_sub(random.between(2, 50)))
         }
@@ -246,8 +346,8 @@ fn turning_event(random: &mut Random, machine: &Machine, hands: &Hands) -> Optio
 }
 
 /// The stamp at which the machine's deadline is due, by the distance to it.
-pub fn due(machine: &Machine) -> Option<u64> {
-    let distance = machine.distance(machine.last).ok()??;
+pub fn due(lent: &Lent, machine: &Machine) -> Option<u64> {
+    let distance = machine.distance_with(lent, machine.last).ok()??;
     machine.last.checked_add_signed(distance)
 }
 
@@ -257,9 +357,9 @@ fn beside(random: &mut Random, machine: &Machine, stamp: u64) -> u64 {
 }
 
 /// A stamp that the machine accepts, often at or beside its deadline.
-pub fn next_stamp(random: &mut Random, machine: &Machine) -> u64 {
+pub fn next_stamp(random: &mut Random, lent: &Lent, machine: &Machine) -> u64 {
     let last = machine.last;
-    let deadline = due(machine);
+    let deadline = due(lent, machine);
     let stamp = match random.below(64) {
         0..=9 => last,
         10..=37 => return beside(random, machine, deadline.unwrap_or(last)),
@@ -275,12 +375,12 @@ pub fn next_stamp(random: &mut Random, machine: &Machine) -> u64 {
 
 /// An event that is refused 3, 4, 5 or, while so many keys are held, 11; sometimes for
 /// two reasons at once.
-fn refused_event(random: &mut Random, machine: &Machine) -> Event {
+fn refused_event(random: &mut Random, lent: &Lent, machine: &Machine) -> Event {
     let hands = Hands { keys: vec![0, 30], fingers: 2 };
-    let event = match seventh(random, machine) {
+    let event = match seventh(random, lent, machine) {
         Some(event) if random.once_in(2) => return event,
         Some(event) => event,
-        None => accepted_event(random, machine, &hands),
+        None => accepted_event(random, lent, machine, &hands),
     };
     let early = machine.last.saturating_sub(random.pick(&[1, 1, 256]));
     let beyond = random.pick(&[LARGEST_STAMP + 1, LARGEST_STAMP + 256, u64::MAX]);
@@ -294,8 +394,8 @@ fn refused_event(random: &mut Random, machine: &Machine) -> Event {
 }
 
 /// A press of a new key while 6 are held; none while there are fewer.
-fn seventh(random: &mut Random, machine: &Machine) -> Option<Event> {
-    let (key, stamp) = (free_key(random, machine), next_stamp(random, machine));
+fn seventh(random: &mut Random, lent: &Lent, machine: &Machine) -> Option<Event> {
+    let (key, stamp) = (free_key(random, machine), next_stamp(random, lent, machine));
     (machine.held.count() == MOST_HELD).then_some(Event { kind: 1, key, stamp })
 }
 
@@ -326,20 +426,36 @@ fn noise(random: &mut Random) -> Vec<u8> {
     let mut log = if random.once_in(2) { settings_record(100, 50, 50, 1) } else { vec![] };
     for _ in 0..random.below(40) {
         let byte = random.byte();
-        log.push(random.pick(&[0, 1, 2, 5, 10, byte]));
+        log.push(random.pick(&[0, 1, 2, 3, 5, 7, 10, byte]));
     }
     log
 }
 
-/// A log with one damage at a random place.
+/// A log with one damage at a random place. A list's record and the one behind it are
+/// damaged more often than others.
 fn damaged(random: &mut Random, mut log: Vec<u8>) -> Vec<u8> {
-    let place = random.place(log.len());
-    let record = record_start(random.place(record_count(&log)));
-    match random.below(16) {
+    let starts = starts(&log);
+    let second = starts.get(1).copied().unwrap_or(0);
+    let third = starts.get(2).copied().unwrap_or(log.len());
+    let place = match random.once_in(4) {
+        true => second + random.place(third - second),
+        false => random.place(log.len()),
+    };
+    let record = random.pick(&starts);
+    let record = random.pick(&[record, record, record, second]);
+    match random.below(20) {
         0..=3 => log[place] = log[place].wrapping_add(random.between(1, 255) as u8),
         4 => log[place] ^= random.pick(&[1, 2, 4, 8, 16, 32, 64, 128]),
         5..=7 => log[record + random.place(3)] = random.pick(&[0, 1, 2, 3, 5, 9, 10, 11, 255]),
         8..=10 => log.truncate(place),
+        16 | 17 => {
+            let list = list_record(&right_lent(random));
+            insert(&mut log, random.pick(&[record, second, third]), &list);
+        }
+        18 => {
+            let list = list_record(&right_lent(random));
+            insert(&mut log, SETTINGS_LENGTH, &odd_list(random, list));
+        }
         11 => insert(&mut log, record, &settings_record(100, 50, 50, 0)),
         12 => drop(log.drain(..SETTINGS_LENGTH)),
         13 => drop(log.remove(place)),
@@ -353,17 +469,27 @@ fn insert(log: &mut Vec<u8>, place: usize, bytes: &[u8]) {
     log.splice(place..place, bytes.iter().copied());
 }
 
-/// How many records an undamaged log has.
-fn record_count(log: &[u8]) -> usize {
-    1 + log.len().saturating_sub(SETTINGS_LENGTH) / EVENT_LENGTH
+/// A list's record with a few bytes more or fewer, its stated length with them.
+pub fn odd_list(random: &mut Random, mut list: Vec<u8>) -> Vec<u8> {
+    let body = list.len() - HEADER;
+    let length = random.pick(&[0, 1, 2, body - 2, body - 1, body + 1, body + 2, body + 3]);
+    list.resize(HEADER + length, 0);
+    let [high, low] = ((list.len() - HEADER) as u16).to_be_bytes();
+    list[1..HEADER].copy_from_slice(&[high, low]);
+    list
 }
 
-/// Where a record of an undamaged log starts.
-fn record_start(index: usize) -> usize {
-    match index {
-        0 => 0,
-        _ => SETTINGS_LENGTH + (index - 1) * EVENT_LENGTH,
+/// Where the records of an undamaged log start.
+fn starts(log: &[u8]) -> Vec<usize> {
+    let mut starts = vec![0];
+    while let Some((_, body)) = split(&log[starts[starts.len() - 1]..]) {
+        starts.push(starts[starts.len() - 1] + HEADER + body.len());
     }
+    // The last is the log's end, unless there is no record at all.
+    if starts.len() > 1 {
+        starts.pop();
+    }
+    starts
 }
 
 /// The bytes that a log's words need.
@@ -392,31 +518,55 @@ fn random_room(random: &mut Random, log: &[u8]) -> usize {
 /// steps of two words, one of slower hands with overlaps of 399 and 400 ms in S4 and
 /// S5, one of held keys (repeats, ups that come alone, doubled letters, a function
 /// key), and one of six keys held, in which a seventh is pressed.
-const BASES: [(RawSettings, &str); 6] = [
+/// Two more have a list of pairs: one through S7 and S8, its pairs sharing a key, one
+/// through the splits by a third letter and by a thumb.
+const BASES: [(RawSettings, &str, List); 8] = [
     (
         (100, 50, 50, 0),
         "24@0 24up@60 18@100 18up@150 21@200 R@230 21up@270 Rup@280 18@300 tick@400",
+        None,
     ),
     (
         (100, 50, 50, 1),
         "R@0 21@40 Rup@60 L@70 24@80 R@90 24up@95 0@300 R@310 10@340 F@345 L@350 R@360 tick@470",
+        None,
     ),
-    ((100, 50, 50, 1), "R@0 21@40 Rup@60 tick@80 L@100 24@140 Lup@160 F@170 30@180"),
+    ((100, 50, 50, 1), "R@0 21@40 Rup@60 tick@80 L@100 24@140 Lup@160 F@170 30@180", None),
     (
         (1_000, 50, 50, 1),
         "21@0 R@500 21up@899 Rup@950 21@1000 R@1500 21up@1900 Rup@1950 \
          L@2000 24@2500 Lup@2899 tick@3298 24up@3300 L@4000 24@4500 Lup@4900 18@5000",
+        None,
     ),
     (
         (100, 50, 50, 1),
         "21up@0 21@10 21@60 R@70 21@80 24up@85 21up@90 Rup@95 21@100 21up@110 21@120 21@220 \
          F@230 21@240",
+        None,
     ),
-    ((100, 50, 50, 0), "0@0 1@10 2@20 3@30 4@40 24@50 24@60 4up@70 21@80 L@90 21@95 5@300"),
+    ((100, 50, 50, 0), "0@0 1@10 2@20 3@30 4@40 24@50 24@60 4up@70 21@80 L@90 21@95 5@300", None),
+    (
+        (100, 50, 70, 0),
+        "21@0 24@30 21up@50 24up@65 24@100 21@130 24up@140 tick@155 21up@160 21@200 22@210 \
+         tick@270 21up@280 24@300",
+        Some((&[pair(21, 24, 0x304b), pair(22, 21, 0x4e00)], 60, 40)),
+    ),
+    (
+        (100, 50, 50, 1),
+        "21@0 24@30 22@60 R@80 24up@85 22up@90 Rup@95 24@200 21@210 L@230 21up@500 24up@500 \
+         10@600 21@610",
+        Some((&[pair(24, 21, 0xffff), pair(22, 24, 0x20)], 100, 50)),
+    ),
 ];
 
+/// Pairs, T_s and N.
+type List = Option<(&'static [Pair], u16, u8)>;
+
 pub fn base_logs() -> impl Iterator<Item = Vec<u8>> {
-    BASES.iter().map(|(raw, text)| log_of(*raw, &notation::events(text).unwrap_or_default()))
+    BASES.iter().map(|(raw, text, list)| {
+        let lent = list.map(|(pairs, ts, n)| Lent::new(pairs, ts, n));
+        log_with(*raw, lent.as_ref(), &notation::events(text).unwrap_or_default())
+    })
 }
 
 /// Hands over every case of the fixed set; stops at the first error.
@@ -427,8 +577,10 @@ pub fn every_place<E>(mut visit: impl FnMut(Case) -> Result<(), E>) -> Result<()
         every_cut(&log, &mut visit)?;
         every_byte(&log, &mut visit)?;
         settings_everywhere(&log, &mut visit)?;
+        lists_everywhere(&log, &mut visit)?;
         every_boundary(&log[SETTINGS_LENGTH..], &mut visit)?;
     }
+    every_list(&mut visit)?;
     every_kind_and_key(&mut visit)
 }
 
@@ -458,11 +610,60 @@ fn every_byte<E>(log: &[u8], visit: Visit<E>) -> Result<(), E> {
 
 /// A settings record before every record and at the end.
 fn settings_everywhere<E>(log: &[u8], visit: Visit<E>) -> Result<(), E> {
-    (0..=record_count(log)).try_for_each(|index| {
+    starts(log).into_iter().chain([log.len()]).try_for_each(|start| {
         let mut log = log.to_vec();
-        insert(&mut log, record_start(index), &settings_record(100, 50, 50, 0));
+        insert(&mut log, start, &settings_record(100, 50, 50, 0));
         visit(Case { log, room: 41 })
     })
+}
+
+/// A list before every record and at the end, the first record too: of a pair and of
+/// none, good, bad and of a wrong length.
+fn lists_everywhere<E>(log: &[u8], visit: Visit<E>) -> Result<(), E> {
+    let one = Lent::new(&[pair(24, 21, 0x3042)], 200, 30);
+    let none = Lent::new(&[], 50, 99);
+    let bad = Lent::new(&[pair(24, 24, 0x3042)], 200, 30);
+    let mut odd = list_record(&none);
+    odd[2] = 2;
+    odd.pop();
+    let lists = [list_record(&one), list_record(&none), list_record(&bad), odd];
+    for start in starts(log).into_iter().chain([log.len()]) {
+        for list in &lists {
+            let mut log = log.to_vec();
+            insert(&mut log, start, list);
+            visit(Case { log, room: 41 })?;
+        }
+    }
+    Ok(())
+}
+
+/// Lists on and beside every bound in their place, with a chord behind them; and list
+/// records of every length up to more than may be, whole, and cut behind a byte or before
+/// the last.
+fn every_list<E>(visit: Visit<E>) -> Result<(), E> {
+    let text = "21@0 24@30 21up@70 24up@75 0@200 1@205 30@290 30up@330 tick@500";
+    let events = notation::events(text).unwrap_or_default();
+    for list in boundary_lists() {
+        visit(Case { log: log_with((100, 50, 50, 0), Some(&list), &events), room: 41 })?;
+    }
+    let settings = settings_record(100, 50, 50, 0);
+    let body = [&[0, 100, 50][..], &many_pairs()].concat();
+    for length in (0..=body.len()).chain([65_535]) {
+        let [high, low] = (length as u16).to_be_bytes();
+        let body = body.iter().copied().cycle().take(length);
+        let list: Vec<u8> = [3, high, low].into_iter().chain(body).collect();
+        let event = event_record(Event { kind: 1, key: 21, stamp: 7 });
+        visit(Case { log: [&settings[..], &list, &event].concat(), room: 9 })?;
+        visit(Case { log: [&settings[..], &list[..list.len() - 1]].concat(), room: 9 })?;
+        visit(Case { log: [&settings[..], &list[..4.min(list.len())]].concat(), room: 9 })?;
+    }
+    Ok(())
+}
+
+/// The bytes of 70 good pairs.
+fn many_pairs() -> Vec<u8> {
+    let two = (0..KEYS).flat_map(|a| (a + 1..KEYS).map(move |b| pair(b, a, 0x3041)));
+    two.take(70).flat_map(|pair| pair.bytes()).collect()
 }
 
 /// Settings on and beside every boundary, before the same events.

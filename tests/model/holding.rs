@@ -3,7 +3,8 @@
 //! keys that are not held.
 
 use crate::log::judged_events;
-use crate::model::{step, Event, Machine, MOST_HELD};
+use crate::model::{step_with, Event, Machine, Resting::S8, MOST_HELD};
+use crate::pairs::Lent;
 use crate::tally::Tally;
 
 pub const HOLDING: [&str; 10] = [
@@ -26,8 +27,8 @@ pub struct Holding(Tally<&'static str>);
 
 impl Holding {
     /// Counts an event, if the held keys have to do with it.
-    pub fn add(&mut self, machine: &Machine, event: Event) {
-        let number = step(machine, event).err().unwrap_or(0);
+    pub fn add(&mut self, lent: &Lent, machine: &Machine, event: Event) {
+        let number = step_with(lent, machine, event).err().unwrap_or(0);
         let (held, many) = (machine.held.has(event.key), machine.held.count() == MOST_HELD);
         let what = match (event.kind, number) {
             (1, 0) if held && many => "repeat-while-six",
@@ -38,7 +39,9 @@ impl Holding {
             (1, 4) if many && !held => "seventh-refused-4",
             (1, 3) if many => "seventh-refused-3",
             (2, 0) if held => "up",
-            (2, 0) if machine.waiting() == Some(event.key) => UP_OF_M_ALONE,
+            (2, 0) if machine.waits(event.key) && !matches!(machine.resting, S8 { .. }) => {
+                UP_OF_M_ALONE
+            }
             (2, 0) => "up-alone",
             (5, 0) if machine.held.count() > 0 => "function-while-held",
             _ => return,
@@ -48,7 +51,8 @@ impl Holding {
 
     /// Counts the accepted events of a log, and the one that is refused.
     pub fn add_log(&mut self, log: &[u8]) {
-        judged_events(log).iter().for_each(|(machine, event)| self.add(machine, *event));
+        let (lent, judged) = judged_events(log);
+        judged.iter().for_each(|(machine, event)| self.add(&lent, machine, *event));
     }
 
     pub fn print(&self) {

@@ -1,4 +1,4 @@
-//! An independent model of document 01 and of requests 1/12 to 5/12, 7/12 and 8/12 of
+//! An independent model of document 01 and of requests 1/12 to 5/12 and 7/12 to 9/12 of
 //! document 02, and what the tests make with it.
 
 pub mod arguments;
@@ -7,12 +7,14 @@ pub mod drill;
 pub mod generate;
 pub mod holding;
 pub mod lines;
+pub mod lists;
 pub mod live;
 pub mod log;
 pub mod model;
 pub mod moved;
 pub mod notation;
 pub mod overlaps;
+pub mod pairs;
 pub mod pieces;
 pub mod program;
 pub mod random;

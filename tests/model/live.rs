@@ -1,12 +1,14 @@
 //! The C face for a live keyboard: opening, stepping and asking (request 3/12) a
 //! machine that goes through the host's hands as numbers, its stamps in a type of
-//! their own. On top of the model of the machine; the numbers are those that the
-//! header names.
+//! their own, and with each call a list of pairs is lent (9/12). On top of the model of
+//! the machine; the numbers are those that the header names.
 
 use crate::log::{word, RawSettings};
 use crate::model::{
-    sign, step, thumb, Event, Held, Machine, Resting, Sending, Settings, Slip, Thumb, LARGEST_STAMP,
+    sign, step_with, thumb, Event, Held, Machine, Resting, Sending, Settings, Slip, Thumb,
+    LARGEST_STAMP,
 };
+use crate::pairs::{Lent, NO_PAIRS};
 
 /// A wrong rule put into this face on purpose, to show that a comparison can fail.
 #[derive(Clone, Copy, PartialEq, Eq, Debug)]
@@ -27,8 +29,8 @@ pub enum LiveSlip {
     StampFirst,
     /// Numbers that the state doesn't use may be anything.
     LeftOverIgnored,
-    /// Of the held set only the low 32 bits are looked at.
-    HeldCutShort,
+    /// Of the second key only the low byte is looked at.
+    SecondCutShort,
     /// A refused step hands back no machine.
     RefusedCleared,
     /// An empty face is no item.
@@ -44,7 +46,7 @@ pub const LIVE_SLIPS: [(&str, LiveSlip); 11] = [
     ("numbers-exchanged", LiveSlip::NumbersExchanged),
     ("stamp-first", LiveSlip::StampFirst),
     ("left-over-ignored", LiveSlip::LeftOverIgnored),
-    ("held-cut-short", LiveSlip::HeldCutShort),
+    ("second-cut-short", LiveSlip::SecondCutShort),
     ("refused-cleared", LiveSlip::RefusedCleared),
     ("empty-face-no-item", LiveSlip::EmptyFaceNoItem),
 ];
@@ -81,10 +83,13 @@ pub const fn at(ms: u64) -> Stamp {
 pub struct Flat {
     pub last: Stamp,
     pub m: Stamp,
+    pub k: Stamp,
     pub o: Stamp,
     pub r: Stamp,
     /// One bit a key, key 0 the lowest.
-    pub held: u64,
+    pub held: u32,
+    /// K.
+    pub second: u32,
     pub t: u16,
     pub j: u8,
     pub l: u8,
@@ -97,7 +102,7 @@ pub struct Flat {
 impl Flat {
     /// The numbers of a machine that has these settings.
     pub fn of((t, j, l, solo): RawSettings, machine: &Machine) -> Flat {
-        let (last, held) = (at(machine.last), machine.held.0.into());
+        let (last, held) = (at(machine.last), machine.held.0);
         let flat = Flat { last, held, t, j, l, solo, ..Flat::default() };
         match machine.resting {
             Resting::S1 => Flat { state: 1, ..flat },
@@ -112,21 +117,30 @@ impl Flat {
             Resting::S6 { thumb, o, key, m, r } => {
                 Flat { state: 6, thumb: number(thumb), o: at(o), key, m: at(m), r: at(r), ..flat }
             }
+            Resting::S7 { key, m, second, k } => {
+                Flat { state: 7, key, m: at(m), second: second.into(), k: at(k), ..flat }
+            }
+            Resting::S8 { key, m, second, k, r } => {
+                let second = second.into();
+                Flat { state: 8, key, m: at(m), second, k: at(k), r: at(r), ..flat }
+            }
         }
     }
 
     /// The machine that the numbers name; refusal 2 if they name none or one that
     /// is not well formed.
     pub fn machine(&self, wrong: Wrong) -> Result<Machine, u32> {
+        self.machine_with(&NO_PAIRS, wrong)
+    }
+
+    /// The same with this list lent, which two waiting letters must be a pair of.
+    pub fn machine_with(&self, lent: &Lent, wrong: Wrong) -> Result<Machine, u32> {
         let ignored = wrong.live(LiveSlip::LeftOverIgnored);
         let settings = settings(wrong, self.raw_settings()).ok_or(2u32)?;
-        let resting = self.resting().filter(|_| ignored || self.nothing_left_over()).ok_or(2u32)?;
-        let held = match wrong.live(LiveSlip::HeldCutShort) {
-            true => self.held as u32,
-            false => u32::try_from(self.held).map_err(|_| 2u32)?,
-        };
-        let machine = Machine { settings, resting, last: self.last.ms, held: Held(held) };
-        if machine.well_formed() {
+        let resting = self.resting(wrong);
+        let resting = resting.filter(|_| ignored || self.nothing_left_over()).ok_or(2u32)?;
+        let machine = Machine { settings, resting, last: self.last.ms, held: Held(self.held) };
+        if machine.well_formed_with(lent) {
             Ok(machine)
         } else {
             Err(2)
@@ -138,9 +152,13 @@ impl Flat {
     }
 
     /// The resting state, by the numbers that it uses.
-    fn resting(&self) -> Option<Resting> {
-        let Flat { m: Stamp { ms: m }, o: Stamp { ms: o }, r: Stamp { ms: r }, key, .. } = *self;
-        let thumb = thumb(self.thumb);
+    fn resting(&self, wrong: Wrong) -> Option<Resting> {
+        let [m, k, o, r] = [self.m, self.k, self.o, self.r].map(|stamp| stamp.ms);
+        let (key, thumb) = (self.key, thumb(self.thumb));
+        let second = match wrong.live(LiveSlip::SecondCutShort) {
+            true => Some(self.second as u8),
+            false => u8::try_from(self.second).ok(),
+        };
         match self.state {
             1 => Some(Resting::S1),
             2 => Some(Resting::S2 { key, m }),
@@ -148,19 +166,25 @@ impl Flat {
             4 => Some(Resting::S4 { key, m, thumb: thumb?, o }),
             5 => Some(Resting::S5 { thumb: thumb?, o, key, m }),
             6 => Some(Resting::S6 { thumb: thumb?, o, key, m, r }),
+            7 => Some(Resting::S7 { key, m, second: second?, k }),
+            8 => Some(Resting::S8 { key, m, second: second?, k, r }),
             _ => None,
         }
     }
 
     /// Every number that the state doesn't use is 0.
     fn nothing_left_over(&self) -> bool {
-        let [m, o, r] = [self.m, self.o, self.r].map(|stamp| stamp.ms);
+        let [m, k, o, r] = [self.m, self.k, self.o, self.r].map(|stamp| stamp.ms);
         let (key, thumb) = (u64::from(self.key), u64::from(self.thumb));
+        let second = k | u64::from(self.second);
         let left_over = match self.state {
-            1 => m | o | r | key | thumb,
-            2 => o | r | thumb,
-            3 => m | r | key,
-            4 | 5 => r,
+            1 => m | o | r | key | thumb | second,
+            2 => o | r | thumb | second,
+            3 => m | r | key | second,
+            4 | 5 => r | second,
+            6 => second,
+            7 => o | r | thumb,
+            8 => o | thumb,
             _ => 0,
         };
         left_over == 0
@@ -204,15 +228,31 @@ pub struct Stepped {
     pub items: u32,
     pub first: u16,
     pub second: u16,
-    pub backspace: u16,
+    /// 0 to 2.
+    pub backspaces: u16,
     pub sent_first: u16,
     pub sent_second: u16,
     pub sent_third: u16,
 }
 
-/// Takes one event with the machine that the numbers name.
+/// The machine that the numbers name, with this list lent. Refusal 12, then 2.
+fn named(wrong: Wrong, lent: &Lent, flat: &Flat) -> Result<Machine, u32> {
+    let machine = flat.machine_with(lent, wrong);
+    let two_first = wrong.machine == Some(Slip::TwelveAfterTwo) && machine.is_err();
+    match lent.good(wrong.machine) || two_first {
+        true => machine,
+        false => Err(12),
+    }
+}
+
+/// Takes one event with the machine that the numbers name; of no pairs.
 pub fn step_numbers(wrong: Wrong, flat: &Flat, event: Event) -> Stepped {
-    match flat.machine(wrong).and_then(|machine| step(&machine, event)) {
+    step_numbers_with(wrong, &NO_PAIRS, flat, event)
+}
+
+/// The same with a list lent.
+pub fn step_numbers_with(wrong: Wrong, lent: &Lent, flat: &Flat, event: Event) -> Stepped {
+    match named(wrong, lent, flat).and_then(|machine| step_with(lent, &machine, event)) {
         Err(number) => {
             let cleared = wrong.live(LiveSlip::RefusedCleared);
             let machine = if cleared { Flat::default() } else { *flat };
@@ -237,7 +277,7 @@ pub fn step_numbers(wrong: Wrong, flat: &Flat, event: Event) -> Stepped {
                 items: words.len() as u32,
                 first,
                 second,
-                backspace: backspaces.count() as u16,
+                backspaces: backspaces.count() as u16,
                 sent_first,
                 sent_second,
                 sent_third,
@@ -262,10 +302,16 @@ pub struct Asked {
     pub milliseconds: i64,
 }
 
-/// Request 3/12 of the machine that the numbers name.
+/// Request 3/12 of the machine that the numbers name; of no pairs.
 pub fn distance(wrong: Wrong, flat: &Flat, stamp: u64) -> Asked {
-    let answer = flat.machine(wrong).and_then(|machine| machine.distance(stamp));
-    match slipped(wrong.live, flat, stamp, answer) {
+    distance_with(wrong, &NO_PAIRS, flat, stamp)
+}
+
+/// The same with a list lent.
+pub fn distance_with(wrong: Wrong, lent: &Lent, flat: &Flat, stamp: u64) -> Asked {
+    let machine = named(wrong, lent, flat);
+    let answer = machine.and_then(|machine| machine.distance_with(lent, stamp));
+    match slipped(wrong.live, lent, flat, stamp, answer) {
         Err(number) => Asked { number, ..Asked::default() },
         Ok(None) => Asked::default(),
         Ok(Some(milliseconds)) => Asked { number: 0, deadline: 1, milliseconds },
@@ -275,11 +321,17 @@ pub fn distance(wrong: Wrong, flat: &Flat, stamp: u64) -> Asked {
 type Distance = Result<Option<i64>, u32>;
 
 /// The right answer, turned into the one that a wrong rule gives.
-fn slipped(slip: Option<LiveSlip>, flat: &Flat, stamp: u64, answer: Distance) -> Distance {
+fn slipped(
+    slip: Option<LiveSlip>,
+    lent: &Lent,
+    flat: &Flat,
+    stamp: u64,
+    answer: Distance,
+) -> Distance {
     let last = flat.last.ms;
     // A deadline from the last accepted stamp, and from there to the stamp.
     let from_last = || -> Distance {
-        let right = flat.machine(Wrong::default())?.distance(last)?;
+        let right = flat.machine_with(lent, Wrong::default())?.distance_with(lent, last)?;
         Ok(right.map(|right| right + (last - stamp) as i64))
     };
     match (slip, answer) {

@@ -1,6 +1,6 @@
 //! `model check` tries the model against every worked example of the papers, and
-//! demand 3, the moved clock, the round trip of drills and the distance on random
-//! sequences, lines and states. `model play` and `model drill` print what the program
+//! demand 3, the moved clock, lists of pairs, the round trip of drills and the distance on
+//! random sequences, lines and states. `model play` and `model drill` print what the program
 //! of that name prints for its standard input, by the model. `model long` writes a
 //! typed log of so many MiB and keeps little of it in memory.
 
@@ -8,6 +8,7 @@ mod check_drill;
 mod check_held;
 mod check_live;
 mod check_moved;
+mod check_pairs;
 mod check_pieces;
 mod worked;
 
@@ -18,14 +19,16 @@ use std::process::ExitCode;
 use trabeculon_model::demand3;
 use trabeculon_model::drill::{drill, USUAL_SETTINGS};
 use trabeculon_model::generate;
+use trabeculon_model::lists::right_lent;
 use trabeculon_model::log::{
     log_of, play, read_log, read_log_bytes, settings_record, Answer, RawSettings, BUFFER,
 };
 use trabeculon_model::model::{
-    character, sign, step, Event, Face, Item, Machine, Resting, Settings, Thumb, KEYS,
+    character, sign, step, step_with, Event, Face, Item, Machine, Resting, Settings, Thumb, KEYS,
     LARGEST_STAMP, LEAST_T, MOST_T,
 };
 use trabeculon_model::notation::{events, sendings_text, sign_text};
+use trabeculon_model::pairs::{Lent, NO_PAIRS};
 use trabeculon_model::random::Random;
 use worked::{Example, EXAMPLES};
 
@@ -107,6 +110,7 @@ fn check_all() -> Result<(), String> {
     check_live::check_all()?;
     check_held::check_all()?;
     check_moved::check_all()?;
+    check_pairs::check_all()?;
     check_pieces::check_all()?;
     check_demand3()?;
     check_rules_reached()
@@ -190,16 +194,18 @@ fn check_examples() -> Result<(), String> {
     for example in &EXAMPLES {
         check_example(example).map_err(|what| format!("{}: {what}", example.name))?;
     }
-    println!("examples: {} runs, P1 to P11, 4/12's and 7/12's among them", EXAMPLES.len());
+    println!("examples: {} runs, P1 to P11, 4/12's, 7/12's and 9/12's among them", EXAMPLES.len());
     Ok(())
 }
 
 fn check_example(example: &Example) -> Result<(), String> {
     let (t, j, l, solo) = example.settings;
     let mut machine = Machine::fresh(settings(t, j, l, solo)?);
+    let lent = example.lent();
     for (keystroke, committed, sent, state) in example.lines {
         for event in keystrokes(keystroke)? {
-            let step = step(&machine, event).map_err(|n| format!("{keystroke}: refused {n}"))?;
+            let step = step_with(&lent, &machine, event);
+            let step = step.map_err(|n| format!("{keystroke}: refused {n}"))?;
             let line: String = step.items.iter().filter_map(sign).map(|s| sign_text(&s)).collect();
             let got = (line.as_str(), sendings_text(&step.sendings), name(&step.machine.resting));
             expect(keystroke, got, (committed, sent.to_string(), state))?;
@@ -217,6 +223,8 @@ fn name(resting: &Resting) -> &'static str {
         Resting::S4 { .. } => "S4",
         Resting::S5 { .. } => "S5",
         Resting::S6 { .. } => "S6",
+        Resting::S7 { .. } => "S7",
+        Resting::S8 { .. } => "S8",
     }
 }
 
@@ -406,13 +414,14 @@ const SEQUENCES: u64 = 100_000;
 
 fn check_demand3() -> Result<(), String> {
     let mut random = Random::new(3);
-    for _ in 0..SEQUENCES {
+    for index in 0..SEQUENCES {
         let raw = generate::right_settings(&mut random);
         let machine = generate::open(raw).ok_or("settings refused")?;
-        demand3::check_random(&mut random, machine.settings)
-            .map_err(|what| format!("{raw:?}: {what}"))?;
+        let lent = if index % 2 == 0 { NO_PAIRS.clone() } else { right_lent(&mut random) };
+        demand3::check_random(&mut random, &lent, machine.settings)
+            .map_err(|what| format!("{raw:?}, {lent:?}: {what}"))?;
     }
-    println!("demand 3: holds on {SEQUENCES} random sequences");
+    println!("demand 3: holds on {SEQUENCES} random sequences, half of them with a list");
     Ok(())
 }
 
@@ -422,8 +431,8 @@ fn check_demand3() -> Result<(), String> {
 type Reached = (&'static str, u8, &'static str, usize);
 
 /// The rules of 01's section "One event", some that change only the last stamp
-/// among them, as repeats do (7/12).
-const RULES: [Reached; 49] = [
+/// among them, as repeats do (7/12), and those of two letters (9/12).
+const RULES: [Reached; 71] = [
     ("S1", 1, "S1", 0),
     ("S1", 1, "S2", 0),
     ("S1", 2, "S1", 0),
@@ -473,10 +482,33 @@ const RULES: [Reached; 49] = [
     ("S6", 5, "S1", 1),
     ("S6", 5, "S1", 2),
     ("S6", 6, "S6", 0),
+    ("S2", 1, "S7", 0),
+    ("S7", 1, "S7", 0),
+    ("S7", 1, "S7", 1),
+    ("S7", 1, "S2", 1),
+    ("S7", 1, "S2", 2),
+    ("S7", 2, "S8", 0),
+    ("S7", 2, "S7", 0),
+    ("S7", 2, "S1", 1),
+    ("S7", 3, "S3", 1),
+    ("S7", 3, "S4", 1),
+    ("S7", 4, "S7", 0),
+    ("S7", 5, "S1", 1),
+    ("S7", 6, "S7", 0),
+    ("S8", 1, "S8", 0),
+    ("S8", 1, "S7", 1),
+    ("S8", 1, "S2", 1),
+    ("S8", 1, "S2", 2),
+    ("S8", 2, "S8", 0),
+    ("S8", 2, "S1", 1),
+    ("S8", 2, "S1", 2),
+    ("S8", 3, "S3", 1),
+    ("S8", 3, "S4", 1),
 ];
 
 /// Every late line, with what it commits.
-const LATE: [(&str, usize); 6] = [("S2", 1), ("S3", 1), ("S4", 1), ("S5", 1), ("S6", 1), ("S6", 2)];
+const LATE: [(&str, usize); 8] =
+    [("S2", 1), ("S3", 1), ("S4", 1), ("S5", 1), ("S6", 1), ("S6", 2), ("S7", 1), ("S8", 2)];
 
 fn check_rules_reached() -> Result<(), String> {
     let mut random = Random::new(4);
@@ -484,8 +516,9 @@ fn check_rules_reached() -> Result<(), String> {
     let mut late = BTreeSet::new();
     for _ in 0..20_000 {
         let machine = generate::open(generate::right_settings(&mut random)).ok_or("settings")?;
-        let events = generate::random_events(&mut random, machine, 30, false);
-        note_rules(machine, &events, &mut reached, &mut late);
+        let lent = right_lent(&mut random);
+        let events = generate::random_events(&mut random, &lent, machine, 30, false);
+        note_rules(&lent, machine, &events, &mut reached, &mut late);
     }
     for rule in RULES {
         expect(&format!("rule {rule:?} reached"), reached.contains(&rule), true)?;
@@ -498,15 +531,17 @@ fn check_rules_reached() -> Result<(), String> {
 }
 
 fn note_rules(
+    lent: &Lent,
     mut machine: Machine,
     events: &[Event],
     reached: &mut BTreeSet<Reached>,
     late: &mut BTreeSet<(&'static str, usize)>,
 ) {
     for event in events {
-        let due = matches!(machine.distance(event.stamp), Ok(Some(wait)) if wait <= 0);
+        let wait = machine.distance_with(lent, event.stamp);
+        let due = matches!(wait, Ok(Some(wait)) if wait <= 0);
         let before = name(&machine.resting);
-        let Ok(step) = step(&machine, *event) else { return };
+        let Ok(step) = step_with(lent, &machine, *event) else { return };
         if due {
             late.insert((before, step.items.len()));
         } else {

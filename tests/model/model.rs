@@ -1,7 +1,10 @@
-//! The key-timing machine of document 01, as requests 1/12, 3/12, 4/12 and 7/12 of
+//! The key-timing machine of document 01, as requests 1/12, 3/12, 4/12, 7/12 and 9/12 of
 //! document 02 mend it, in plain Rust, section by section in 01's order. Written
 //! from the papers alone and never from the proved code, so that a comparison of
-//! the two says something.
+//! the two says something. What ends in `_with` is lent a list of pairs (9/12,
+//! pairs.rs); the same without is lent one of no pairs.
+
+use crate::pairs::{Lent, NO_PAIRS};
 
 // ---- Numbers ----
 
@@ -70,9 +73,67 @@ pub enum Slip {
     /// A lone character that was pressed before the stamp 2^32 is due there at the latest.
     /// No log shows it that is not moved (8/12).
     DueAt2To32,
+    /// A key in no pair waits as long as one in a pair (9/12).
+    AllWaitLonger,
+    /// A key in some pair waits no longer than others.
+    PairWaitsA,
+    /// The order within a pair is regarded.
+    PairOrderRegarded,
+    /// Equal gaps go to the pair.
+    EqualGapToPair,
+    /// A second letter that is left over from a pair has the first one's stamp.
+    SplitStamp,
+    /// A third letter is never a pair with the second.
+    ThirdNeverPairs,
+    /// A third letter's gaps are not regarded after M's release: the pair is broken up.
+    ThirdBreaksUp,
+    /// K's release in S8 is judged by N.
+    NForL,
+    /// M's release in S7 ends the pair whatever its share.
+    UpEndsPair,
+    /// S8 waits as S6 does.
+    S8WaitsAsS6,
+    /// A function key in S8 gives both letters.
+    FunctionBreaksUp,
+    /// What is late in S8 gives the pair.
+    LatePairs,
+    /// Only one backspace is sent for two shown letters.
+    OneBackspace,
+    /// Both shown letters are taken back where the first stays.
+    FirstTakenBack,
+    /// Two letters wait, and one is counted.
+    TwoWaitAsOne,
+    /// A pair may stand in a list twice.
+    PairTwice,
+    /// A pair may stand in a list twice, once in either order.
+    PairTurnedTwice,
+    /// A key may be a pair with itself.
+    PairWithItself,
+    /// Key 31 may be in a pair.
+    PairOfKey31,
+    /// A pair's character may be a surrogate.
+    Surrogates,
+    /// A pair's character may be below U+0020.
+    ControlCharacters,
+    /// 65 pairs are accepted.
+    SixtyFivePairs,
+    /// T_s and N are not asked where there are no pairs.
+    TimesUnaskedWithoutPairs,
+    /// 12 comes after 2. No log shows it, as there the state is well formed.
+    TwelveAfterTwo,
+    /// Two waiting letters need not be a pair of the lent list. No log shows it.
+    NoPairFormed,
+    /// A list is accepted in a log also behind events. No single event shows it.
+    ListLater,
+    /// In a log a list of more than 64 pairs is refused 7. No single event shows it.
+    SevenForTwelve,
+    /// In a log a list whose length is not 3+4n is refused 12. No single event shows it.
+    TwelveForSeven,
+    /// In a log a pair's character has its low byte first. No single event shows it.
+    LowByteFirst,
 }
 
-pub const SLIPS: [(&str, Slip); 25] = [
+pub const SLIPS: [(&str, Slip); 54] = [
     ("late-after-event", Slip::LateAfterEvent),
     ("rounds-down", Slip::RoundsDown),
     ("thumb-restarts", Slip::ThumbRestarts),
@@ -98,6 +159,35 @@ pub const SLIPS: [(&str, Slip); 25] = [
     ("seven-formed", Slip::SevenFormed),
     ("thumb-by-the-clock", Slip::ThumbByTheClock),
     ("due-at-2-to-32", Slip::DueAt2To32),
+    ("all-wait-longer", Slip::AllWaitLonger),
+    ("pair-waits-a", Slip::PairWaitsA),
+    ("pair-order-regarded", Slip::PairOrderRegarded),
+    ("equal-gap-to-pair", Slip::EqualGapToPair),
+    ("split-stamp", Slip::SplitStamp),
+    ("third-never-pairs", Slip::ThirdNeverPairs),
+    ("third-breaks-up", Slip::ThirdBreaksUp),
+    ("n-for-l", Slip::NForL),
+    ("up-ends-pair", Slip::UpEndsPair),
+    ("s8-waits-as-s6", Slip::S8WaitsAsS6),
+    ("function-breaks-up", Slip::FunctionBreaksUp),
+    ("late-pairs", Slip::LatePairs),
+    ("one-backspace", Slip::OneBackspace),
+    ("first-taken-back", Slip::FirstTakenBack),
+    ("two-wait-as-one", Slip::TwoWaitAsOne),
+    ("pair-twice", Slip::PairTwice),
+    ("pair-turned-twice", Slip::PairTurnedTwice),
+    ("pair-with-itself", Slip::PairWithItself),
+    ("pair-of-key-31", Slip::PairOfKey31),
+    ("surrogates", Slip::Surrogates),
+    ("control-characters", Slip::ControlCharacters),
+    ("sixty-five-pairs", Slip::SixtyFivePairs),
+    ("times-unasked-without-pairs", Slip::TimesUnaskedWithoutPairs),
+    ("twelve-after-two", Slip::TwelveAfterTwo),
+    ("no-pair-formed", Slip::NoPairFormed),
+    ("list-later", Slip::ListLater),
+    ("seven-for-twelve", Slip::SevenForTwelve),
+    ("twelve-for-seven", Slip::TwelveForSeven),
+    ("low-byte-first", Slip::LowByteFirst),
 ];
 
 /// Settings in range: `new` is the only way to get one.
@@ -167,9 +257,43 @@ impl Settings {
 
     /// W: no press waits this long.
     pub fn longest_wait(&self) -> u64 {
+        self.longest_wait_with(&NO_PAIRS)
+    }
+
+    /// Where there are pairs (9/12): up to X a press waits for what comes next, and X is
+    /// also the larger of A and P for a key in some pair. If that is a second letter, it
+    /// waits up to T_s more, and after M's release, before T_s is over, up to P.
+    pub fn longest_wait_with(&self, lent: &Lent) -> u64 {
         let d = self.fl(self.b());
         let x = self.a().max(d);
-        x + x.max(self.fj(x))
+        if lent.pairs.is_empty() {
+            return x + x.max(self.fj(x));
+        }
+        let x = x.max(self.p(lent));
+        x + x.max(self.fj(x)).max(u64::from(lent.ts) + self.p(lent))
+    }
+
+    // The waits of 9/12.
+
+    /// GN(x) = x(100-N)/N.
+    fn gn(&self, lent: &Lent, x: u64) -> u64 {
+        let n = u64::from(lent.n);
+        self.quotient(x.min(LARGEST_STAMP) * (100 - n), n)
+    }
+
+    /// P = GN(T_s).
+    pub fn p(&self, lent: &Lent) -> u64 {
+        self.gn(lent, lent.ts.into())
+    }
+
+    /// How long a character waits alone: a key in some pair the larger of A and P.
+    fn alone(&self, lent: &Lent, key: u8) -> u64 {
+        let longer = lent.in_some_pair(self.slip, key) && !self.slips(Slip::PairWaitsA);
+        if longer {
+            self.a().max(self.p(lent))
+        } else {
+            self.a()
+        }
     }
 }
 
@@ -211,7 +335,8 @@ pub fn character(key: u8, face: Face) -> Option<char> {
 
 // ---- Resting states ----
 
-/// M is `key` pressed at `m`; O is `thumb` pressed at `o`, released at `r`.
+/// M is `key` pressed at `m`; O is `thumb` pressed at `o`, released at `r`; a second
+/// letter K is `second` pressed at `k`, and then `r` is M's release.
 #[derive(Clone, Copy, PartialEq, Eq, Debug)]
 pub enum Resting {
     /// Nothing.
@@ -226,9 +351,13 @@ pub enum Resting {
     S5 { thumb: Thumb, o: u64, key: u8, m: u64 },
     /// O then M, O released.
     S6 { thumb: Thumb, o: u64, key: u8, m: u64, r: u64 },
+    /// M then K, a pair (9/12).
+    S7 { key: u8, m: u64, second: u8, k: u64 },
+    /// M then K, a pair, M released.
+    S8 { key: u8, m: u64, second: u8, k: u64, r: u64 },
 }
 
-use Resting::{S1, S2, S3, S4, S5, S6};
+use Resting::{S1, S2, S3, S4, S5, S6, S7, S8};
 
 /// Request 7/12: the set of held character keys, one bit a key, key 0 the lowest.
 #[derive(Clone, Copy, PartialEq, Eq, Default, Debug)]
@@ -278,7 +407,15 @@ impl Machine {
     }
 
     pub fn well_formed(&self) -> bool {
+        self.well_formed_with(&NO_PAIRS)
+    }
+
+    pub fn well_formed_with(&self, lent: &Lent) -> bool {
         let last = self.last;
+        let pair = |a, b| {
+            let slip = self.settings.slip;
+            lent.together(slip, a, b).is_some() || slip == Some(Slip::NoPairFormed)
+        };
         let resting = match self.resting {
             S1 => true,
             S2 { key, m } => key < KEYS && m <= last,
@@ -286,6 +423,13 @@ impl Machine {
             S4 { key, m, o, .. } => key < KEYS && m <= o && o <= last,
             S5 { key, o, m, .. } => key < KEYS && o <= m && m <= last,
             S6 { key, o, m, r, .. } => key < KEYS && o <= m && m <= r && r <= last,
+            S7 { key, m, second, k } => {
+                key < KEYS && second < KEYS && m <= k && k <= last && pair(key, second)
+            }
+            S8 { key, m, second, k, r } => {
+                let keys = key < KEYS && second < KEYS;
+                keys && m <= k && k <= r && r <= last && pair(key, second)
+            }
         };
         resting && last <= LARGEST_STAMP && self.held_well_formed()
     }
@@ -301,17 +445,19 @@ impl Machine {
 
     /// Whether a down of this key is a repeat.
     pub fn holds(&self, key: u8) -> bool {
-        let waits = self.settings.slips(Slip::WaitingCountsAsHeld) && self.waiting() == Some(key);
-        self.held.has(key) || waits
+        let waits = self.settings.slips(Slip::WaitingCountsAsHeld);
+        self.held.has(key) || waits && self.waits(key)
     }
 
     /// Request 3/12: the milliseconds from a keyboard stamp to the next deadline,
     /// positive still to wait, 0 due now, negative overdue; none if there is no
-    /// deadline. Refusals 2, 4, 5 in this order.
+    /// deadline. Refusals 12 (9/12), 2, 4, 5 in this order.
     pub fn distance(&self, stamp: u64) -> Result<Option<i64>, u32> {
-        if !self.well_formed() {
-            return Err(2);
-        }
+        self.distance_with(&NO_PAIRS, stamp)
+    }
+
+    pub fn distance_with(&self, lent: &Lent, stamp: u64) -> Result<Option<i64>, u32> {
+        self.lent_and_formed(lent)?;
         if stamp > LARGEST_STAMP {
             return Err(4);
         }
@@ -319,32 +465,46 @@ impl Machine {
             return Err(5);
         }
         // Both are far below the largest i64: no wait is above 100 largest stamps.
-        Ok(self.deadline().map(|deadline| deadline as i64 - stamp as i64))
+        Ok(self.deadline(lent).map(|deadline| deadline as i64 - stamp as i64))
+    }
+
+    /// Refusal 12, then 2.
+    fn lent_and_formed(&self, lent: &Lent) -> Result<(), u32> {
+        let (good, formed) = (lent.good(self.settings.slip), self.well_formed_with(lent));
+        match (good, formed) {
+            (false, false) if self.settings.slips(Slip::TwelveAfterTwo) => Err(2),
+            (false, _) => Err(12),
+            (_, false) => Err(2),
+            _ => Ok(()),
+        }
     }
 
     /// The deadline of a well-formed state.
-    fn deadline(&self) -> Option<u64> {
+    fn deadline(&self, lent: &Lent) -> Option<u64> {
         let s = &self.settings;
         match self.resting {
             S1 => None,
-            S2 { m, .. } if s.slips(Slip::DueAt2To32) && m >> 32 == 0 => {
-                Some((m + s.a()).min(1 << 32))
+            S2 { key, m } if s.slips(Slip::DueAt2To32) && m >> 32 == 0 => {
+                Some((m + s.alone(lent, key)).min(1 << 32))
             }
-            S2 { m, .. } => Some(m + s.a()),
+            S2 { key, m } => Some(m + s.alone(lent, key)),
             S3 { .. } if s.slips(Slip::ThumbByTheClock) => s.solo.then(|| s.b()),
             S3 { o, .. } => s.solo.then(|| o + s.b()),
             S4 { m, o, .. } => Some(o + s.fj(o - m)),
             S5 { o, m, .. } if s.slips(Slip::NoCap) => Some(m + s.fl(m - o)),
             S5 { o, m, .. } => Some(m + s.fl((m - o).min(s.b()))),
             S6 { m, r, .. } => Some(r + (r - m)),
+            S7 { k, .. } => Some(k + u64::from(lent.ts)),
+            S8 { k, r, .. } if s.slips(Slip::S8WaitsAsS6) => Some(r + (r - k)),
+            S8 { k, r, .. } => Some(r + s.gn(lent, r - k)),
         }
     }
 
     /// The overlap that an event ends and that 400 ms decide upon, since it is under
     /// its share of the whole: M's release in S4 or O's in S5, before the deadline.
-    pub fn overlap_ended_by(&self, event: Event) -> Option<u64> {
+    pub fn overlap_ended_by(&self, lent: &Lent, event: Event) -> Option<u64> {
         let now = event.stamp;
-        let waits = matches!(self.distance(now), Ok(Some(1..)));
+        let waits = matches!(self.distance_with(lent, now), Ok(Some(1..)));
         let input = parse(event.kind, event.key).filter(|_| waits)?;
         let (percent, a, b) = match (self.resting, acts_as(self, input)) {
             (S4 { key, m, o, .. }, Input::CharacterUp(up)) if up == key => {
@@ -358,12 +518,39 @@ impl Machine {
         under_share(percent, a, b).then_some(b)
     }
 
-    /// The key of the character that waits.
-    pub fn waiting(&self) -> Option<u8> {
-        match self.resting {
-            S1 | S3 { .. } => None,
-            S2 { key, .. } | S4 { key, .. } | S5 { key, .. } | S6 { key, .. } => Some(key),
+    /// The keys of the characters that wait, first pressed first.
+    pub fn waiting(&self) -> impl Iterator<Item = u8> {
+        let keys = match self.resting {
+            S1 | S3 { .. } => [None, None],
+            S2 { key, .. } | S4 { key, .. } | S5 { key, .. } | S6 { key, .. } => [Some(key), None],
+            S7 { key, second, .. } | S8 { key, second, .. } => [Some(key), Some(second)],
+        };
+        keys.into_iter().flatten()
+    }
+
+    pub fn waits(&self, key: u8) -> bool {
+        self.waiting().any(|waiting| waiting == key)
+    }
+
+    /// How many characters wait, as the reader answers it.
+    pub fn waiting_count(&self) -> u32 {
+        let count = self.waiting().count() as u32;
+        if self.settings.slips(Slip::TwoWaitAsOne) {
+            count.min(1)
+        } else {
+            count
         }
+    }
+
+    /// How many late lines follow one another at a stamp.
+    pub fn late_lines(&self, lent: &Lent, now: u64) -> usize {
+        let mut machine = *self;
+        let mut lines = 0;
+        while machine.deadline(lent).is_some_and(|deadline| deadline <= now) {
+            machine.resting = late(lent, &machine).1;
+            lines += 1;
+        }
+        lines
     }
 }
 
@@ -388,11 +575,25 @@ enum Input {
     Tick,
 }
 
-/// A character (key and face) or a mark.
+/// A character (key and face), a mark, or the character of a pair, whose first key was
+/// pressed first.
 #[derive(Clone, Copy, PartialEq, Eq, Debug)]
 pub enum Item {
     Character { key: u8, face: Face },
     Mark(Thumb),
+    Together { first: u8, second: u8, character: u16 },
+}
+
+impl Item {
+    /// The keys whose presses it answers.
+    pub fn keys(self) -> impl Iterator<Item = u8> {
+        let keys = match self {
+            Item::Character { key, .. } => [Some(key), None],
+            Item::Mark(_) => [None, None],
+            Item::Together { first, second, .. } => [Some(first), Some(second)],
+        };
+        keys.into_iter().flatten()
+    }
 }
 
 /// What a rule leaves: the committed items and the next resting state.
@@ -409,6 +610,16 @@ pub struct Step {
 /// Takes one event: a step, or the number it is refused with (then the
 /// machine stays as it was given).
 pub fn step(machine: &Machine, event: Event) -> Result<Step, u32> {
+    step_with(&NO_PAIRS, machine, event)
+}
+
+pub fn step_with(lent: &Lent, machine: &Machine, event: Event) -> Result<Step, u32> {
+    machine.lent_and_formed(lent)?;
+    step_formed(lent, machine, event)
+}
+
+/// The same of a list that was accepted before and a state that is well formed.
+pub(crate) fn step_formed(lent: &Lent, machine: &Machine, event: Event) -> Result<Step, u32> {
     let input = accept(machine, event)?;
     let (settings, now) = (machine.settings, event.stamp);
     let repeats = matches!(input, Input::CharacterDown(key) if machine.holds(key));
@@ -417,12 +628,12 @@ pub fn step(machine: &Machine, event: Event) -> Result<Step, u32> {
     }
     let acting = acts_as(machine, input);
     let (items, resting) = if settings.slips(Slip::LateAfterEvent) {
-        in_turn(machine, |m| act(m, acting, now), |m| settle(m, now))
+        in_turn(machine, |m| act(lent, m, acting, now), |m| settle(lent, m, now))
     } else {
-        in_turn(machine, |m| settle(m, now), |m| act(m, acting, now))
+        in_turn(machine, |m| settle(lent, m, now), |m| act(lent, m, acting, now))
     };
     let after = Machine { settings, resting, last: now, held: held_after(machine, input) };
-    let sendings = sendings(shown(&machine.resting), &items, shown(&resting));
+    let sendings = sendings(settings.slip, &shown(&machine.resting), &items, &shown(&resting));
     Ok(Step { machine: after, items, sendings })
 }
 
@@ -464,11 +675,8 @@ fn in_turn(
     (items, resting)
 }
 
-/// Refusals 2, 3, 4, 5, 11 in this order.
+/// Refusals 3, 4, 5, 11 in this order.
 fn accept(machine: &Machine, event: Event) -> Result<Input, u32> {
-    if !machine.well_formed() {
-        return Err(2);
-    }
     let too_many = too_many(machine, event);
     let before = |slip| too_many && machine.settings.slips(slip);
     if before(Slip::ElevenBeforeThree) {
@@ -522,21 +730,29 @@ pub fn thumb(key: u8) -> Option<Thumb> {
     }
 }
 
-/// The line "late", if the deadline is at or before the event's stamp.
-fn settle(machine: &Machine, now: u64) -> Outcome {
-    match machine.deadline() {
-        Some(deadline) if deadline <= now => late(machine),
+/// The line "late", if the deadline is at or before the event's stamp; and where it
+/// leaves a state already due, that state's line too (9/12).
+fn settle(lent: &Lent, machine: &Machine, now: u64) -> Outcome {
+    match machine.deadline(lent) {
+        Some(deadline) if deadline <= now => {
+            in_turn(machine, |m| late(lent, m), |m| settle(lent, m, now))
+        }
         _ => (vec![], machine.resting),
     }
 }
 
-fn late(machine: &Machine) -> Outcome {
+fn late(lent: &Lent, machine: &Machine) -> Outcome {
     let items = match machine.resting {
         S1 => vec![],
         S2 { key, .. } => plain(key),
         S3 { thumb, .. } => mark(machine, thumb),
         S4 { key, thumb, .. } | S5 { key, thumb, .. } => chord(key, thumb),
         S6 { key, thumb, .. } => [mark(machine, thumb), plain(key)].concat(),
+        S7 { key, second, .. } => together(lent, machine, key, second),
+        S8 { key, second, .. } if machine.settings.slips(Slip::LatePairs) => {
+            together(lent, machine, key, second)
+        }
+        S8 { key, second, .. } => [plain(key), plain(second)].concat(),
     };
     (items, S1)
 }
@@ -560,15 +776,23 @@ fn mark(machine: &Machine, thumb: Thumb) -> Vec<Item> {
     }
 }
 
+/// Commit the pair's character.
+fn together(lent: &Lent, machine: &Machine, first: u8, second: u8) -> Vec<Item> {
+    let character = lent.together(machine.settings.slip, first, second).unwrap_or(0);
+    vec![Item::Together { first, second, character }]
+}
+
 /// What the event does, the deadline being dealt with.
-fn act(machine: &Machine, input: Input, now: u64) -> Outcome {
+fn act(lent: &Lent, machine: &Machine, input: Input, now: u64) -> Outcome {
     match machine.resting {
         S1 => act_s1(input, now),
-        S2 { key, m } => act_s2(key, m, input, now),
+        S2 { key, m } => act_s2(lent, machine, (key, m), input, now),
         S3 { thumb, o } => act_s3(machine, thumb, o, input, now),
         S4 { key, m, thumb, o } => act_s4(machine, (key, m), (thumb, o), input, now),
         S5 { thumb, o, key, m } => act_s5(machine, (thumb, o), (key, m), input, now),
         S6 { thumb, key, .. } => act_s6(machine, thumb, key, input, now),
+        S7 { key, m, second, k } => act_s7(lent, machine, (key, m), (second, k), input, now),
+        S8 { key, m, second, k, r } => act_s8(lent, machine, (key, m), (second, k), r, input, now),
     }
 }
 
@@ -580,9 +804,9 @@ fn act_s1(input: Input, now: u64) -> Outcome {
     }
 }
 
-fn act_s2(key: u8, m: u64, input: Input, now: u64) -> Outcome {
+fn act_s2(lent: &Lent, machine: &Machine, (key, m): (u8, u64), input: Input, now: u64) -> Outcome {
     match input {
-        Input::CharacterDown(new) => (plain(key), S2 { key: new, m: now }),
+        Input::CharacterDown(new) => second_letter(lent, machine, (key, m), (new, now)),
         Input::ThumbDown(thumb) => (vec![], S4 { key, m, thumb, o: now }),
         Input::CharacterUp(up) if up == key => (plain(key), S1),
         Input::Function => (plain(key), S1),
@@ -674,6 +898,112 @@ fn act_s6(machine: &Machine, thumb: Thumb, key: u8, input: Input, now: u64) -> O
     }
 }
 
+/// Two letters one after the other (document 000, rule 2.2): a pair waits, and else the
+/// first is committed and the second waits alone.
+fn second_letter(
+    lent: &Lent,
+    machine: &Machine,
+    (key, m): (u8, u64),
+    (second, k): (u8, u64),
+) -> Outcome {
+    if lent.together(machine.settings.slip, key, second).is_some() {
+        (vec![], S7 { key, m, second, k })
+    } else {
+        (plain(key), S2 { key: second, m: k })
+    }
+}
+
+/// Two letters wait (document 000, rule 7).
+fn act_s7(
+    lent: &Lent,
+    machine: &Machine,
+    (key, m): (u8, u64),
+    (second, k): (u8, u64),
+    input: Input,
+    now: u64,
+) -> Outcome {
+    let (gap, overlap) = (k - m, now - k);
+    let pair = || (together(lent, machine, key, second), S1);
+    match input {
+        Input::CharacterDown(_) | Input::ThumbDown(_) => {
+            third_key(lent, machine, (key, m), (second, k), input, now)
+        }
+        Input::CharacterUp(up) if up == key => {
+            let short = under_share(lent.n.into(), gap, overlap) && overlap < lent.ts.into();
+            if short && !machine.settings.slips(Slip::UpEndsPair) {
+                (vec![], S8 { key, m, second, k, r: now })
+            } else {
+                pair()
+            }
+        }
+        Input::CharacterUp(up) if up == second => pair(),
+        Input::Function => pair(),
+        _ => (vec![], S7 { key, m, second, k }),
+    }
+}
+
+/// Two letters wait, the first of them released (document 000, rule 8).
+fn act_s8(
+    lent: &Lent,
+    machine: &Machine,
+    (key, m): (u8, u64),
+    (second, k): (u8, u64),
+    r: u64,
+    input: Input,
+    now: u64,
+) -> Outcome {
+    let settings = &machine.settings;
+    let pair = || (together(lent, machine, key, second), S1);
+    let both = || ([plain(key), plain(second)].concat(), S1);
+    match input {
+        Input::CharacterDown(_) | Input::ThumbDown(_) => {
+            third_key(lent, machine, (key, m), (second, k), input, now)
+        }
+        Input::CharacterUp(up) if up == second => {
+            let percent = if settings.slips(Slip::NForL) { lent.n.into() } else { settings.l };
+            // The overlap of both keys, by the whole time that K was down.
+            if 100 * (r - k) < percent * (now - k) {
+                both()
+            } else {
+                pair()
+            }
+        }
+        Input::Function if settings.slips(Slip::FunctionBreaksUp) => both(),
+        Input::Function => pair(),
+        _ => (vec![], S8 { key, m, second, k, r }),
+    }
+}
+
+/// A third key, letter or thumb, while two letters wait: the pair if its keys are nearer
+/// to each other than the second is to the third. Else the first letter is committed, and
+/// the second goes on with the third key.
+fn third_key(
+    lent: &Lent,
+    machine: &Machine,
+    (key, m): (u8, u64),
+    (second, k): (u8, u64),
+    input: Input,
+    now: u64,
+) -> Outcome {
+    let slips = |slip| machine.settings.slips(slip);
+    let released = matches!(machine.resting, S8 { .. });
+    let nearer = k - m < now - k || slips(Slip::EqualGapToPair) && k - m == now - k;
+    if nearer && !(released && slips(Slip::ThirdBreaksUp)) {
+        let (_, resting) = act_s1(input, now);
+        return (together(lent, machine, key, second), resting);
+    }
+    let k = if slips(Slip::SplitStamp) { m } else { k };
+    let (more, resting) = match input {
+        Input::CharacterDown(new) if slips(Slip::ThirdNeverPairs) => {
+            (plain(second), S2 { key: new, m: now })
+        }
+        Input::CharacterDown(new) => second_letter(lent, machine, (second, k), (new, now)),
+        Input::ThumbDown(thumb) => (vec![], S4 { key: second, m: k, thumb, o: now }),
+        _ => (vec![], machine.resting),
+    };
+    ([plain(key), more].concat(), resting)
+}
+
 /// S4, second character: the thumb is nearer to it than to the first. Equal gaps
 /// go to the first (1/12).
 fn keeps_plain(settings: &Settings, a: u64, b: u64) -> bool {
@@ -714,14 +1044,16 @@ pub enum Sending {
     Sign(Sign),
 }
 
-/// The character shown while M waits; none for an empty face.
-pub fn shown(resting: &Resting) -> Option<Sign> {
-    let c = match *resting {
-        S1 | S3 { .. } => None,
-        S2 { key, .. } | S4 { key, .. } => character(key, Face::Plain),
-        S5 { key, thumb, .. } | S6 { key, thumb, .. } => character(key, Face::Under(thumb)),
+/// The characters shown while M waits, or M and K; none for an empty face.
+pub fn shown(resting: &Resting) -> Vec<Sign> {
+    let plain = |key| character(key, Face::Plain);
+    let characters = match *resting {
+        S1 | S3 { .. } => [None, None],
+        S2 { key, .. } | S4 { key, .. } => [plain(key), None],
+        S5 { key, thumb, .. } | S6 { key, thumb, .. } => [character(key, Face::Under(thumb)), None],
+        S7 { key, second, .. } | S8 { key, second, .. } => [plain(key), plain(second)],
     };
-    c.map(Sign::Character)
+    characters.into_iter().flatten().map(Sign::Character).collect()
 }
 
 /// The sign of an item; none for an empty face.
@@ -729,16 +1061,28 @@ pub fn sign(item: &Item) -> Option<Sign> {
     match *item {
         Item::Character { key, face } => character(key, face).map(Sign::Character),
         Item::Mark(thumb) => Some(Sign::Mark(thumb)),
+        // An accepted list gives no surrogate and never 0.
+        Item::Together { character, .. } => {
+            let character = char::from_u32(character.into()).filter(|c| *c != '\0');
+            Some(Sign::Character(character.unwrap_or(char::REPLACEMENT_CHARACTER)))
+        }
     }
 }
 
-/// p is what was shown before the step, `after` what is shown after it.
-fn sendings(p: Option<Sign>, items: &[Item], after: Option<Sign>) -> Vec<Sending> {
-    let q: Vec<Sign> = items.iter().filter_map(sign).chain(after).collect();
-    let signs = |q: &[Sign]| q.iter().map(|s| Sending::Sign(*s)).collect::<Vec<_>>();
-    match p {
-        None => signs(&q),
-        Some(_) if q.first() == p.as_ref() => signs(&q[1..]),
-        Some(_) => [vec![Sending::Backspace], signs(&q)].concat(),
-    }
+/// p is what was shown before the step, `after` what is shown after it: the shown signs
+/// that q begins with stay, counted from the front, each other one costs a backspace, and
+/// the rest of q follows.
+fn sendings(slip: Option<Slip>, p: &[Sign], items: &[Item], after: &[Sign]) -> Vec<Sending> {
+    let q: Vec<Sign> = items.iter().filter_map(sign).chain(after.iter().copied()).collect();
+    let same = p.iter().zip(&q).take_while(|(shown, sign)| shown == sign).count();
+    let stay = match slip {
+        Some(Slip::FirstTakenBack) if same < p.len() => 0,
+        _ => same,
+    };
+    let backspaces = match slip {
+        Some(Slip::OneBackspace) => (p.len() - stay).min(1),
+        _ => p.len() - stay,
+    };
+    let signs = q[stay..].iter().map(|sign| Sending::Sign(*sign));
+    std::iter::repeat_n(Sending::Backspace, backspaces).chain(signs).collect()
 }

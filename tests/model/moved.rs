@@ -4,6 +4,7 @@
 use crate::live::{Flat, Wrong};
 use crate::log::{event, event_record, split, HEADER, TAG_EVENT};
 use crate::model::{Event, Machine, Resting, LARGEST_STAMP};
+use crate::pairs::Lent;
 use crate::random::Random;
 
 // ---- What is moved ----
@@ -36,13 +37,20 @@ pub fn moved_machine(machine: &Machine, k: u64) -> Machine {
         Resting::S6 { thumb, o, key, m, r } => {
             Resting::S6 { thumb, o: o + k, key, m: m + k, r: r + k }
         }
+        Resting::S7 { key, m, second, k: later } => {
+            Resting::S7 { key, m: m + k, second, k: later + k }
+        }
+        Resting::S8 { key, m, second, k: later, r } => {
+            Resting::S8 { key, m: m + k, second, k: later + k, r: r + k }
+        }
     };
     Machine { resting, last: machine.last + k, ..*machine }
 }
 
-/// The same as numbers; those that name no machine stay as they are.
-pub fn moved_flat(flat: &Flat, k: u64) -> Flat {
-    match flat.machine(Wrong::default()) {
+/// The same as numbers; those that name no machine, or one that is not well formed with
+/// this list lent, stay as they are.
+pub fn moved_flat(lent: &Lent, flat: &Flat, k: u64) -> Flat {
+    match flat.machine_with(lent, Wrong::default()) {
         Ok(machine) => Flat::of(flat.raw_settings(), &moved_machine(&machine, k)),
         Err(_) => *flat,
     }

@@ -4,6 +4,7 @@
 
 use crate::log::judged_events;
 use crate::model::{Event, Machine, Resting, SHORT_OVERLAP};
+use crate::pairs::Lent;
 use crate::tally::Tally;
 
 /// M's releases in S4 and O's in S5, by the overlap in milliseconds.
@@ -23,8 +24,8 @@ pub struct Overlaps(Tally<&'static str>);
 
 impl Overlaps {
     /// Counts an event, if it ends an overlap that 400 ms decide upon.
-    pub fn add(&mut self, machine: &Machine, event: Event) {
-        if let Some(overlap) = machine.overlap_ended_by(event) {
+    pub fn add(&mut self, lent: &Lent, machine: &Machine, event: Event) {
+        if let Some(overlap) = machine.overlap_ended_by(lent, event) {
             let first = if matches!(machine.resting, Resting::S4 { .. }) { 0 } else { 4 };
             let place = (overlap + 2).saturating_sub(SHORT_OVERLAP).min(3) as usize;
             self.0.add(OVERLAPS[first + place]);
@@ -33,7 +34,8 @@ impl Overlaps {
 
     /// Counts the events of a log. One that is refused ends no overlap.
     pub fn add_log(&mut self, log: &[u8]) {
-        judged_events(log).iter().for_each(|(machine, event)| self.add(machine, *event));
+        let (lent, judged) = judged_events(log);
+        judged.iter().for_each(|(machine, event)| self.add(&lent, machine, *event));
     }
 
     pub fn print(&self) {

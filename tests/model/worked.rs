@@ -1,7 +1,11 @@
 //! Document 01's "Keystrokes to try" (P8 as request 1/12 has it) and "Where a
-//! programmer slips", request 4/12's keystrokes, held keys (7/12), and a few more, as
-//! one table: what each keystroke commits and sends, and the state it leaves. States
-//! and sendings that the papers don't name were worked out by hand.
+//! programmer slips", request 4/12's keystrokes, held keys (7/12), chords of two letters
+//! (9/12), and a few more, as one table: what each keystroke commits and sends, and the
+//! state it leaves. States and sendings that the papers don't name were worked out by
+//! hand.
+
+use trabeculon_model::log::RawSettings;
+use trabeculon_model::pairs::{pair, Lent, Pair, NO_PAIRS};
 
 /// Keystroke, what it commits, what it sends, the state it leaves.
 pub type Line = (&'static str, &'static str, &'static str, &'static str);
@@ -13,13 +17,65 @@ pub struct Example {
     pub lines: &'static [Line],
 }
 
+/// An example with a list of pairs, T_s and N (9/12); every other has no pairs.
+type Listed = (&'static str, (&'static [Pair], u16, u8));
+
+/// The lists, by the names of their examples.
+const LISTS: [Listed; 19] = [
+    ("9/12, a chord of two letters", KA_SA),
+    ("9/12, a millisecond too late", KA_SA),
+    ("9/12, the order of the keys is ignored", KA_SA),
+    ("9/12, T_s ends it", KA_SA),
+    ("9/12, both are let go", KA_SA),
+    ("9/12, a function key", KA_SA),
+    ("9/12, a key in no pair waits as before", LONG),
+    ("9/12, a key in some pair waits longer", LONG),
+    ("9/12, a third letter, the pair is nearer", KA_SA_TA),
+    ("9/12, equal gaps, a third letter that pairs", KA_SA_TA),
+    ("9/12, equal gaps, a third letter that does not", KA_SA_TA),
+    ("9/12, a thumb, the pair is nearer", KA_SA),
+    ("9/12, a thumb, equal gaps", KA_SA),
+    ("9/12, K goes up soon after M", KA_SA),
+    ("9/12, L decides in S8, and not N", WIDE),
+    ("9/12, the first pressed again", KA_SA),
+    ("9/12, the pair's character is shown already", KA_SA_KA),
+    ("9/12, due at 217", LATE),
+    ("9/12, the 145 ms", SHORT),
+];
+
+/// か and さ give the sign U+4E00; T_s=100, N=50.
+const KA_SA: (&[Pair], u16, u8) = (&[pair(21, 24, 0x4e00)], 100, 50);
+/// And さ and た give U+4E8C.
+const KA_SA_TA: (&[Pair], u16, u8) = (&[pair(24, 21, 0x4e00), pair(22, 24, 0x4e8c)], 100, 50);
+/// か and さ give か.
+const KA_SA_KA: (&[Pair], u16, u8) = (&[pair(24, 21, 0x304b)], 100, 50);
+/// P is 150.
+const LONG: (&[Pair], u16, u8) = (&[pair(21, 24, 0x4e00)], 100, 40);
+/// N is 20.
+const WIDE: (&[Pair], u16, u8) = (&[pair(21, 24, 0x4e00)], 100, 20);
+const LATE: (&[Pair], u16, u8) = (&[pair(21, 24, 0x4e00)], 60, 50);
+const SHORT: (&[Pair], u16, u8) = (&[pair(21, 24, 0x4e00)], 50, 50);
+
+impl Example {
+    pub fn lent(&self) -> Lent {
+        let list = LISTS.iter().find(|(name, _)| *name == self.name);
+        list.map_or(NO_PAIRS.clone(), |(_, (pairs, ts, n))| Lent::new(pairs, *ts, *n))
+    }
+
+    /// T, J, L, solo as a log holds them.
+    pub fn raw_settings(&self) -> RawSettings {
+        let (t, j, l, solo) = self.settings;
+        (t as u16, j as u8, l as u8, solo as u8)
+    }
+}
+
 const USUAL: (u64, u64, u64, u64) = (100, 50, 50, 0);
 const SOLO: (u64, u64, u64, u64) = (100, 50, 50, 1);
 const SLOW: (u64, u64, u64, u64) = (1_000, 50, 50, 0);
 const SLOW_SOLO: (u64, u64, u64, u64) = (1_000, 50, 50, 1);
 
 #[rustfmt::skip]
-pub const EXAMPLES: [Example; 32] = [
+pub const EXAMPLES: [Example; 51] = [
     Example { name: "P1", settings: USUAL, lines: &[
         ("21@0", "", "か", "S2"),
         ("tick@99", "", "", "S2"),
@@ -247,5 +303,142 @@ pub const EXAMPLES: [Example; 32] = [
         ("R@30", "", "", "S4"),
         ("11up@40", "", "", "S4"),
         ("16@50", "は", "お", "S5"),
+    ] },
+    Example { name: "9/12, a chord of two letters", settings: USUAL, lines: &[
+        ("21@0", "", "か", "S2"),
+        ("24@30", "", "さ", "S7"),
+        ("21up@60", "一", "<BS><BS>一", "S1"),
+        ("24up@70", "", "", "S1"),
+    ] },
+    Example { name: "9/12, a millisecond too late", settings: USUAL, lines: &[
+        ("21@0", "", "か", "S2"),
+        ("24@30", "", "さ", "S7"),
+        ("21up@59", "", "", "S8"),
+        ("tick@87", "", "", "S8"),
+        ("24up@88", "かさ", "", "S1"),
+    ] },
+    Example { name: "9/12, the order of the keys is ignored", settings: USUAL, lines: &[
+        ("24@0", "", "さ", "S2"),
+        ("21@0", "", "か", "S7"),
+        ("24up@0", "一", "<BS><BS>一", "S1"),
+    ] },
+    Example { name: "9/12, T_s ends it", settings: SLOW, lines: &[
+        ("21@0", "", "か", "S2"),
+        ("24@999", "", "さ", "S7"),
+        ("tick@1098", "", "", "S7"),
+        ("22@1099", "一", "<BS><BS>一た", "S2"),
+    ] },
+    Example { name: "9/12, both are let go", settings: USUAL, lines: &[
+        ("21@0", "", "か", "S2"),
+        ("24@50", "", "さ", "S7"),
+        ("24up@51", "一", "<BS><BS>一", "S1"),
+    ] },
+    Example { name: "9/12, a function key", settings: USUAL, lines: &[
+        ("21@0", "", "か", "S2"),
+        ("24@50", "", "さ", "S7"),
+        ("21up@60", "", "", "S8"),
+        ("F@65", "一", "<BS><BS>一", "S1"),
+        ("24up@66", "", "", "S1"),
+        ("21@70", "", "か", "S2"),
+        ("24@71", "", "さ", "S7"),
+        ("F@71", "一", "<BS><BS>一", "S1"),
+    ] },
+    Example { name: "9/12, a key in no pair waits as before", settings: USUAL, lines: &[
+        ("22@0", "", "た", "S2"),
+        ("tick@99", "", "", "S2"),
+        ("tick@100", "た", "", "S1"),
+    ] },
+    Example { name: "9/12, a key in some pair waits longer", settings: USUAL, lines: &[
+        ("24@0", "", "さ", "S2"),
+        ("tick@149", "", "", "S2"),
+        ("tick@150", "さ", "", "S1"),
+        ("22@200", "", "た", "S2"),
+        ("21@299", "た", "か", "S2"),
+        ("tick@448", "", "", "S2"),
+        ("tick@449", "か", "", "S1"),
+    ] },
+    Example { name: "9/12, a third letter, the pair is nearer", settings: USUAL, lines: &[
+        ("21@0", "", "か", "S2"),
+        ("24@30", "", "さ", "S7"),
+        ("22@61", "一", "<BS><BS>一た", "S2"),
+    ] },
+    Example { name: "9/12, equal gaps, a third letter that pairs", settings: USUAL, lines: &[
+        ("21@0", "", "か", "S2"),
+        ("24@30", "", "さ", "S7"),
+        ("22@60", "か", "た", "S7"),
+        // さ was pressed at 30: from 90 on the overlap would be half of the whole.
+        ("24up@89", "", "", "S8"),
+        ("tick@117", "", "", "S8"),
+        ("tick@118", "さた", "", "S1"),
+    ] },
+    Example { name: "9/12, equal gaps, a third letter that does not", settings: USUAL, lines: &[
+        ("21@0", "", "か", "S2"),
+        ("24@30", "", "さ", "S7"),
+        ("0@60", "かさ", "．", "S2"),
+    ] },
+    Example { name: "9/12, a thumb, the pair is nearer", settings: SOLO, lines: &[
+        ("21@0", "", "か", "S2"),
+        ("24@30", "", "さ", "S7"),
+        ("R@61", "一", "<BS><BS>一", "S3"),
+    ] },
+    Example { name: "9/12, a thumb, equal gaps", settings: SOLO, lines: &[
+        ("21@0", "", "か", "S2"),
+        ("24@30", "", "さ", "S7"),
+        ("21up@40", "", "", "S8"),
+        // Due at 50: both are committed, and the thumb stands alone.
+        ("R@50", "かさ", "", "S3"),
+        ("Rup@51", "<R>", "<R>", "S1"),
+        ("24up@52", "", "", "S1"),
+        ("21@100", "", "か", "S2"),
+        ("24@130", "", "さ", "S7"),
+        ("R@160", "か", "", "S4"),
+        // さ was pressed at 130, so the chord is due at 190.
+        ("tick@189", "", "", "S4"),
+        ("tick@190", "ざ", "<BS>ざ", "S1"),
+    ] },
+    Example { name: "9/12, K goes up soon after M", settings: USUAL, lines: &[
+        ("21@0", "", "か", "S2"),
+        ("24@30", "", "さ", "S7"),
+        ("21up@50", "", "", "S8"),
+        ("24up@69", "一", "<BS><BS>一", "S1"),
+    ] },
+    Example { name: "9/12, L decides in S8, and not N", settings: (100, 50, 60, 0), lines: &[
+        ("21@0", "", "か", "S2"),
+        ("24@90", "", "さ", "S7"),
+        ("21up@110", "", "", "S8"),
+        // 20 of 34 ms are under 60 percent, and far above N's 20.
+        ("24up@124", "かさ", "", "S1"),
+        ("21@200", "", "か", "S2"),
+        ("24@290", "", "さ", "S7"),
+        ("21up@310", "", "", "S8"),
+        ("24up@323", "一", "<BS><BS>一", "S1"),
+    ] },
+    Example { name: "9/12, the first pressed again", settings: USUAL, lines: &[
+        ("21@0", "", "か", "S2"),
+        ("24@30", "", "さ", "S7"),
+        ("21@35", "", "", "S7"),
+        ("21up@40", "", "", "S8"),
+        ("21up@41", "", "", "S8"),
+        ("21@45", "か", "か", "S7"),
+        ("tick@145", "一", "<BS><BS>一", "S1"),
+    ] },
+    Example { name: "9/12, the pair's character is shown already", settings: USUAL, lines: &[
+        ("21@0", "", "か", "S2"),
+        ("24@30", "", "さ", "S7"),
+        ("21up@60", "か", "<BS>", "S1"),
+    ] },
+    Example { name: "9/12, due at 217", settings: USUAL, lines: &[
+        ("21@0", "", "か", "S2"),
+        ("24@99", "", "さ", "S7"),
+        ("21up@158", "", "", "S8"),
+        ("tick@216", "", "", "S8"),
+        ("tick@217", "かさ", "", "S1"),
+    ] },
+    Example { name: "9/12, the 145 ms", settings: (50, 50, 50, 0), lines: &[
+        ("21@0", "", "か", "S2"),
+        ("24@49", "", "さ", "S7"),
+        ("21up@97", "", "", "S8"),
+        ("tick@144", "", "", "S8"),
+        ("tick@145", "かさ", "", "S1"),
     ] },
 ];
