@@ -10,6 +10,7 @@
 
 mod compare_moved;
 mod compare_writer;
+mod face;
 
 use std::process::ExitCode;
 
@@ -20,24 +21,15 @@ use trabeculon_model::holding::{Holding, HOLDING};
 use trabeculon_model::log::{read_log_bytes_with, Answer};
 use trabeculon_model::model::{Slip, SLIPS};
 use trabeculon_model::overlaps::Overlaps;
+use trabeculon_model::pairings::Pairings;
 use trabeculon_model::program::hex;
 use trabeculon_model::random::Random;
 use trabeculon_model::tally::Tally;
 
-extern "C" {
-    fn trabeculon_read_log(log: *const u8, log_len: usize, out: *mut u8, out_len: usize) -> Answer;
-}
-
-/// The proved library, in safe clothes.
-fn library_read_log(log: &[u8], out: &mut [u8]) -> Answer {
-    // Sound: both pairs are a slice's own pointer and length, and don't overlap.
-    unsafe { trabeculon_read_log(log.as_ptr(), log.len(), out.as_mut_ptr(), out.len()) }
-}
-
 const DEFAULT_COUNT: u64 = 200_000;
 const DEFAULT_SEED: u64 = 20_010_401;
 /// The numbers of a log: not 2, since a reader opens its own state.
-const READER_NUMBERS: [u64; 9] = [0, 1, 3, 4, 5, 6, 7, 8, 11];
+const READER_NUMBERS: [u64; 10] = [0, 1, 3, 4, 5, 6, 7, 8, 11, 12];
 /// Bytes before and after the run, to see a write outside it.
 const GUARD: usize = 32;
 
@@ -101,6 +93,7 @@ fn compare_reader(arguments: &Arguments) -> Result<(), String> {
 
     let mut tally = Tally::default();
     let (mut overlaps, mut holding) = (Overlaps::default(), Holding::default());
+    let (mut pairings, mut waiting) = (Pairings::default(), Tally::default());
     for index in 0..arguments.count {
         let case = random_case(&mut random);
         let answer = compare(&mut runs, slip, &case)
@@ -108,12 +101,18 @@ fn compare_reader(arguments: &Arguments) -> Result<(), String> {
         tally.add(answer.number.into());
         overlaps.add_log(&case.log[..answer.offset as usize]);
         holding.add_log(&case.log);
+        pairings.add_log(&case.log);
+        waiting.add(u64::from(answer.waiting));
     }
     tally.print(&format!("random logs of seed {}", arguments.seed));
     overlaps.print();
     holding.print();
+    pairings.print();
+    println!("  waiting{}", waiting.times());
     tally.complete(&READER_NUMBERS, arguments.count)?;
     holding.complete(&HOLDING, arguments.count)?;
+    pairings.complete(arguments.count)?;
+    waiting.complete(&[0, 1, 2], arguments.count)?;
     overlaps.complete(arguments.count)
 }
 
@@ -125,7 +124,7 @@ fn compare(random: &mut Random, slip: Option<Slip>, case: &Case) -> Result<Answe
     let log = case.log.clone();
 
     let mut left = before.clone();
-    let library = library_read_log(&log, &mut left[start..end]);
+    let library = face::read_log(&log, &mut left[start..end]);
     let mut right = before.clone();
     let model = read_log_bytes_with(slip, &case.log, &mut right[start..end]);
 

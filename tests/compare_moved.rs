@@ -13,7 +13,7 @@ use trabeculon_model::program::hex;
 use trabeculon_model::random::Random;
 use trabeculon_model::tally::Tally;
 
-use crate::{compare, library_read_log, Arguments};
+use crate::{compare, face, Arguments};
 
 /// Those of the fixed set each in one way, the random ones each in all.
 pub fn compare_all(arguments: &Arguments) -> Result<(), String> {
@@ -84,7 +84,7 @@ type Read = (Answer, Vec<u8>);
 
 fn library(case: &Case) -> Read {
     let mut run = vec![0; case.room];
-    let answer = library_read_log(&case.log, &mut run);
+    let answer = face::read_log(&case.log, &mut run);
     run.truncate(2 * answer.words as usize);
     (answer, run)
 }

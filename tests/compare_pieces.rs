@@ -15,7 +15,8 @@
 //! moved log has the answers and the words of the log itself in the same pieces. Exit 0:
 //! all equal. Exit 1: a mismatch, printed. Exit 2: wrong arguments.
 
-use std::mem::size_of;
+mod face;
+
 use std::process::ExitCode;
 
 use trabeculon_model::arguments::{self, named};
@@ -24,54 +25,19 @@ use trabeculon_model::log::Answer;
 use trabeculon_model::model::SLIPS;
 use trabeculon_model::moved::{log_stamps, moved_log, one_move, MOVES};
 use trabeculon_model::pieces::{
-    end_numbers, fresh_numbers, piece_numbers, FlatReader, PieceRead, Wrong, PIECE_SLIPS,
+    end_numbers, fresh_numbers, piece_numbers, Kept, Wrong, PIECE_SLIPS,
 };
 use trabeculon_model::program::cut_hex;
 use trabeculon_model::random::Random;
 use trabeculon_model::readers::{every_call, random_call, random_cut, Call};
 use trabeculon_model::tally::Tally;
 
-extern "C" {
-    fn trabeculon_read_log(log: *const u8, log_len: usize, out: *mut u8, out_len: usize) -> Answer;
-    fn trabeculon_reader_fresh() -> FlatReader;
-    fn trabeculon_reader_piece(
-        reader: FlatReader,
-        piece: *const u8,
-        piece_len: usize,
-        out: *mut u8,
-        out_len: usize,
-    ) -> PieceRead;
-    fn trabeculon_reader_end(reader: FlatReader) -> PieceRead;
-}
-
-const _: () = assert!(size_of::<FlatReader>() == 104 && size_of::<PieceRead>() == 128);
-
-/// The proved library, in safe clothes. The numbers of a reader may be anything.
-fn library_read_log(log: &[u8], out: &mut [u8]) -> Answer {
-    // Sound: both pairs are a slice's own pointer and length, and don't overlap.
-    unsafe { trabeculon_read_log(log.as_ptr(), log.len(), out.as_mut_ptr(), out.len()) }
-}
-
-fn library_fresh() -> FlatReader {
-    unsafe { trabeculon_reader_fresh() }
-}
-
-fn library_piece(reader: &FlatReader, piece: &[u8], out: &mut [u8]) -> PieceRead {
-    let (bytes, run) = (piece.as_ptr(), out.as_mut_ptr());
-    // Sound: both pairs are a slice's own pointer and length, and don't overlap.
-    unsafe { trabeculon_reader_piece(*reader, bytes, piece.len(), run, out.len()) }
-}
-
-fn library_end(reader: &FlatReader) -> PieceRead {
-    unsafe { trabeculon_reader_end(*reader) }
-}
-
 const DEFAULT_COUNT: u64 = 200_000;
 const DEFAULT_SEED: u64 = 20_010_401;
 /// The numbers of a piece and of an end, 6 and 9 as answers that are for good.
-const NUMBERS: [u64; 11] = [0, 1, 2, 3, 4, 5, 6, 7, 8, 9, 11];
+const NUMBERS: [u64; 12] = [0, 1, 2, 3, 4, 5, 6, 7, 8, 9, 11, 12];
 /// Those of a log: not 2, since the reader is always one handed back, and not 9.
-const LOG_NUMBERS: [u64; 9] = [0, 1, 3, 4, 5, 6, 7, 8, 11];
+const LOG_NUMBERS: [u64; 10] = [0, 1, 3, 4, 5, 6, 7, 8, 11, 12];
 /// How many bytes of the begun record the given readers had, so many or more.
 const BEGUN: [u64; 15] = [0, 1, 2, 3, 4, 5, 6, 7, 8, 9, 10, 11, 12, 13, 14];
 /// For so many random calls one random log is compared.
@@ -125,7 +91,7 @@ fn wrong_named(name: &str) -> Option<Wrong> {
 }
 
 fn compare_all(arguments: &Arguments) -> Result<(), String> {
-    let (library, model) = (library_fresh(), fresh_numbers());
+    let (library, model) = (face::reader_fresh(), fresh_numbers());
     if library != model {
         return Err(format!("fresh readers differ\nlibrary {library:?}\nmodel   {model:?}"));
     }
@@ -157,18 +123,20 @@ impl Compared {
 
     /// Gives one piece both ways, with runs that hold the same bytes before. What the
     /// library answered, and the words it wrote.
-    fn piece(&mut self, call: &Call) -> Result<(PieceRead, Vec<u8>), String> {
+    fn piece(&mut self, call: &Call) -> Result<(Read, Vec<u8>), String> {
         let start = GUARD + self.random.place(8);
         let end = start + call.room;
         let before = self.random.bytes(end + GUARD);
         let piece = call.piece.clone();
 
-        let mut left = before.clone();
-        let library = library_piece(&call.reader, &piece, &mut left[start..end]);
-        let mut right = before.clone();
-        let model = piece_numbers(self.wrong, &call.reader, &call.piece, &mut right[start..end]);
+        let (mut left, mut kept) = (before.clone(), call.kept);
+        let answer = face::reader_piece(&mut kept, &piece, &mut left[start..end]);
+        let library = Read { kept, answer };
+        let (mut right, mut kept) = (before.clone(), call.kept);
+        let answer = piece_numbers(self.wrong, &mut kept, &call.piece, &mut right[start..end]);
+        let model = Read { kept, answer };
 
-        let fault = if !same(&call.reader, &library, &model) {
+        let fault = if !same(&call.kept, &library, &model) {
             "the answers differ"
         } else if left[start..end] != right[start..end] {
             "the runs differ"
@@ -178,14 +146,14 @@ impl Compared {
             "the piece was written"
         } else {
             self.pieces.add(model.answer.number.into());
-            self.begun.add(call.reader.count.min(14));
-            let words = library.answer.words.saturating_sub(call.reader.words);
+            self.begun.add(call.kept.reader.count.min(14));
+            let words = library.answer.words.saturating_sub(call.kept.reader.words);
             return Ok((library, left[start..][..2 * words as usize].to_vec()));
         };
         Err(format!(
             "{fault}\nreader  {:?}\npiece   {}\nrun     {} bytes, before {}\n\
              library {library:?}\n        {}\nmodel   {model:?}\n        {}",
-            call.reader,
+            call.kept,
             cut_hex(&piece),
             call.room,
             cut_hex(&before[start..end]),
@@ -195,11 +163,15 @@ impl Compared {
     }
 
     /// Says the end both ways.
-    fn end(&mut self, reader: &FlatReader) -> Result<PieceRead, String> {
-        let (library, model) = (library_end(reader), end_numbers(self.wrong, reader));
-        if !same(reader, &library, &model) {
+    fn end(&mut self, given: &Kept) -> Result<Read, String> {
+        let (mut left, mut right) = (*given, *given);
+        let answer = face::reader_end(&mut left);
+        let library = Read { kept: left, answer };
+        let answer = end_numbers(self.wrong, &mut right);
+        let model = Read { kept: right, answer };
+        if !same(given, &library, &model) {
             let answers = format!("library {library:?}\nmodel   {model:?}");
-            return Err(format!("the answers differ\nend of {reader:?}\n{answers}"));
+            return Err(format!("the answers differ\nend of {given:?}\n{answers}"));
         }
         self.ends.add(model.answer.number.into());
         Ok(library)
@@ -222,16 +194,26 @@ impl Compared {
     }
 }
 
+/// What a call leaves and answers.
+#[derive(Clone, Copy, PartialEq, Debug)]
+struct Read {
+    kept: Kept,
+    answer: Answer,
+}
+
 /// Every number is the same. Where the reader that was given had bits above the bytes
 /// that came, and is neither refused nor for good, and no record became whole, what
-/// stands there afterwards is not asked.
-fn same(given: &FlatReader, library: &PieceRead, model: &PieceRead) -> bool {
-    let kept = given.told == 1 || model.answer.number == 2;
-    let begun = model.reader.told == 0 && model.reader.offset == given.offset;
-    let free = !kept && begun && *given != given.clean();
+/// stands there afterwards is not asked. Of the run only the pairs of the list are asked,
+/// and of one that is not whole what came of them.
+fn same(given: &Kept, library: &Read, model: &Read) -> bool {
+    let (left, right) = (&library.kept.reader, &model.kept.reader);
+    let kept = given.reader.told == 1 || model.answer.number == 2;
+    let begun = right.told == 0 && right.offset == given.reader.offset;
+    let free = !kept && begun && given.reader != given.reader.clean();
+    let list = model.kept.numbers_in_use();
     library.answer == model.answer
-        && (library.reader == model.reader
-            || free && library.reader.clean() == model.reader.clean())
+        && (left == right || free && left.clean() == right.clean())
+        && library.kept.run[..list] == model.kept.run[..list]
 }
 
 // ---- Single calls ----
@@ -239,7 +221,7 @@ fn same(given: &FlatReader, library: &PieceRead, model: &PieceRead) -> bool {
 fn compare_fixed_calls(arguments: &Arguments) -> Result<(), String> {
     let mut compared = Compared::new(arguments.seed, arguments.wrong);
     every_call(|call| {
-        compared.end(&call.reader)?;
+        compared.end(&call.kept)?;
         compared.piece(&call).map(drop)
     })?;
     compared.print("with every place of a reader tried");
@@ -252,11 +234,11 @@ fn compare_random_calls(arguments: &Arguments) -> Result<(), String> {
     for index in 0..arguments.count {
         let call = random_call(&mut random);
         let mut compare = || {
-            compared.end(&call.reader)?;
+            compared.end(&call.kept)?;
             // And once more with the reader handed back.
             let (read, _) = compared.piece(&call)?;
-            compared.piece(&Call { reader: read.reader, ..random_call(&mut random) })?;
-            compared.end(&read.reader)
+            compared.piece(&Call { kept: read.kept, ..random_call(&mut random) })?;
+            compared.end(&read.kept)
         };
         compare().map_err(|what| format!("call {index} of seed {}: {what}", arguments.seed))?;
     }
@@ -410,7 +392,7 @@ impl Compared {
         runs: Runs,
     ) -> Result<(Vec<Answer>, Vec<u8>), String> {
         let in_log = |what| format!("{what}\nlog     {}\npieces  {pieces:?}", cut_hex(log));
-        let mut reader = library_fresh();
+        let mut kept = Kept::from(face::reader_fresh());
         let (mut answers, mut line) = (vec![], vec![]);
         let (mut came, mut after) = (0, 0);
         for length in pieces {
@@ -418,18 +400,18 @@ impl Compared {
                 break;
             }
             let piece = log[came..came + length].to_vec();
-            let room = self.room(&reader, &piece, runs);
-            let (read, words) = self.piece(&Call { reader, piece, room }).map_err(in_log)?;
+            let room = self.room(&kept, &piece, runs);
+            let (read, words) = self.piece(&Call { kept, piece, room }).map_err(in_log)?;
             came += length;
-            after += usize::from(reader.told == 1);
+            after += usize::from(kept.reader.told == 1);
             answers.push(read.answer);
             line.extend(words);
             if came <= OFTEN_READ {
                 before_the_end(&log[..came], &read.answer, &line).map_err(in_log)?;
             }
-            reader = read.reader;
+            kept = read.kept;
         }
-        let read = self.end(&reader).map_err(in_log)?;
+        let read = self.end(&kept).map_err(in_log)?;
         answers.push(read.answer);
         at_the_end(log, &read.answer, &line).map_err(in_log)?;
         self.after_the_end(&read).map_err(in_log)?;
@@ -437,14 +419,15 @@ impl Compared {
     }
 
     /// The length of a piece's run, by how many words the model writes.
-    fn room(&mut self, reader: &FlatReader, piece: &[u8], runs: Runs) -> usize {
+    fn room(&mut self, kept: &Kept, piece: &[u8], runs: Runs) -> usize {
         let most = 4 * (piece.len() / 13 + 1);
         let random = &mut self.random;
         if runs == Runs::Enough && random.once_in(2) {
             return most + random.place(3);
         }
-        let answer = piece_numbers(Wrong::default(), reader, piece, &mut vec![0; most]).answer;
-        let need = 2 * (answer.words - reader.words) as usize;
+        let right = Wrong::default();
+        let answer = piece_numbers(right, &mut kept.clone(), piece, &mut vec![0; most]);
+        let need = 2 * (answer.words - kept.reader.words) as usize;
         match random.below(4) {
             0 if runs == Runs::TooShort => need.saturating_sub(random.pick(&[1, 2, 3])),
             1 if runs == Runs::TooShort => random.place(need + 1),
@@ -453,13 +436,13 @@ impl Compared {
     }
 
     /// The answer is for good, whatever comes.
-    fn after_the_end(&mut self, ended: &PieceRead) -> Result<(), String> {
+    fn after_the_end(&mut self, ended: &Read) -> Result<(), String> {
         let lengths = [0, 1, 13, 40];
         let length = self.random.pick(&lengths);
         let piece = self.random.bytes(length);
         let room = self.random.place(20);
-        let (again, _) = self.piece(&Call { reader: ended.reader, piece, room })?;
-        let end = self.end(&again.reader)?;
+        let (again, _) = self.piece(&Call { kept: ended.kept, piece, room })?;
+        let end = self.end(&again.kept)?;
         match again == *ended && end == *ended {
             true => Ok(()),
             false => Err(format!("not for good\n{ended:?}\n{again:?}\n{end:?}")),
@@ -470,7 +453,7 @@ impl Compared {
 /// The library's own reader of whole logs, with room enough.
 fn whole(log: &[u8]) -> (Answer, Vec<u8>) {
     let mut run = vec![0; 4 * (log.len() / 13 + 1)];
-    let answer = library_read_log(log, &mut run);
+    let answer = face::read_log(log, &mut run);
     run.truncate(2 * answer.words as usize);
     (answer, run)
 }

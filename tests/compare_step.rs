@@ -5,15 +5,16 @@
 //!   compare_step [COUNT [SEED]] [--wrong-rule [NAME]]
 //!
 //! Opening: every T, and settings on and beside every boundary. Steps and distances:
-//! a fixed set that tries every place of a state's numbers, then COUNT random
-//! states, each with a few events and stamps. Walks: for every twenty states one. And
-//! walks and states with their stamps moved (compare_step_moved.rs). Exit 0: all equal.
-//! Exit 1: a mismatch, printed. Exit 2: wrong arguments.
+//! a fixed set that tries every place of a state's numbers, and lists on and beside every
+//! bound, then COUNT random states, each with a list, good or bad, and a few events and
+//! stamps. Walks: for every twenty states one, each with one list. And walks and states
+//! with their stamps moved (compare_step_moved.rs). Exit 0: all equal. Exit 1: a mismatch,
+//! printed. Exit 2: wrong arguments.
 
 mod compare_step_moved;
+mod face;
 
 use std::fmt::{Debug, Formatter};
-use std::mem::size_of;
 use std::process::ExitCode;
 
 use trabeculon_model::arguments::{self, named};
@@ -21,39 +22,18 @@ use trabeculon_model::generate::{
     boundary_settings, next_event, right_settings, wrong_settings, Hands,
 };
 use trabeculon_model::holding::{Holding, HOLDING, UP_OF_M_ALONE};
+use trabeculon_model::lists::{random_lent, right_lent};
 use trabeculon_model::live::{
-    at, distance, open, step_numbers, Asked, Flat, Opened, Stamp, Stepped, Wrong, LIVE_SLIPS,
+    distance_with, open, step_numbers_with, Asked, Flat, Opened, Stepped, Wrong, LIVE_SLIPS,
 };
 use trabeculon_model::log::{word, RawSettings};
 use trabeculon_model::model::{shown, Event, LARGEST_STAMP, SLIPS};
 use trabeculon_model::overlaps::Overlaps;
+use trabeculon_model::pairings::Pairings;
+use trabeculon_model::pairs::{Lent, NO_PAIRS};
 use trabeculon_model::random::Random;
 use trabeculon_model::states::{every_state, random_event, random_stamp, random_state};
 use trabeculon_model::tally::Tally;
-
-extern "C" {
-    fn trabeculon_open(t: u16, j: u8, l: u8, solo: u8) -> Opened;
-    fn trabeculon_step(machine: Flat, kind: u8, key: u8, stamp: Stamp) -> Stepped;
-    fn trabeculon_distance(machine: Flat, stamp: Stamp) -> Asked;
-}
-
-const _: () = assert!(size_of::<Stamp>() == 8 && size_of::<Asked>() == 16);
-const _: () = assert!(size_of::<Flat>() == 48 && size_of::<Opened>() == 56);
-const _: () = assert!(size_of::<Stepped>() == 72);
-
-/// The proved library, in safe clothes: numbers go in and out, and all of them may
-/// be anything.
-fn library_open((t, j, l, solo): RawSettings) -> Opened {
-    unsafe { trabeculon_open(t, j, l, solo) }
-}
-
-fn library_step(flat: &Flat, event: Event) -> Stepped {
-    unsafe { trabeculon_step(*flat, event.kind, event.key, at(event.stamp)) }
-}
-
-fn library_distance(flat: &Flat, stamp: u64) -> Asked {
-    unsafe { trabeculon_distance(*flat, at(stamp)) }
-}
 
 const DEFAULT_COUNT: u64 = 200_000;
 const DEFAULT_SEED: u64 = 20_010_401;
@@ -62,9 +42,10 @@ const TRIES: usize = 8;
 /// For so many random states one walk.
 const STATES_FOR_A_WALK: u64 = 20;
 /// The numbers of a step, and those of a distance.
-const STEP_NUMBERS: [u64; 6] = [0, 2, 3, 4, 5, 11];
-const DISTANCE_NUMBERS: [u64; 4] = [0, 2, 4, 5];
-/// The same in a walk: not 2, since the machine is always one handed back.
+const STEP_NUMBERS: [u64; 7] = [0, 2, 3, 4, 5, 11, 12];
+const DISTANCE_NUMBERS: [u64; 5] = [0, 2, 4, 5, 12];
+/// The same in a walk: not 2, since the machine is always one handed back, and not 12,
+/// since the list is good.
 const WALK_STEP_NUMBERS: [u64; 5] = [0, 3, 4, 5, 11];
 const WALK_DISTANCE_NUMBERS: [u64; 3] = [0, 4, 5];
 
@@ -115,15 +96,15 @@ fn differ<T: Debug>(what: &str, library: T, model: T) -> String {
 }
 
 fn compare_open(wrong: Wrong, raw: RawSettings) -> Result<Opened, String> {
-    let (library, model) = (library_open(raw), open(wrong, raw));
+    let (library, model) = (face::open(raw), open(wrong, raw));
     if library != model {
         return Err(differ(&format!("open, T J L solo {raw:?}"), library, model));
     }
     Ok(library)
 }
 
-/// The names of the states; 0 is any state that is refused 2.
-const STATES: [&str; 7] = ["refused-2", "S1", "S2", "S3", "S4", "S5", "S6"];
+/// The names of the states; 0 is any state that is refused 2, or with its list 12.
+const STATES: [&str; 9] = ["refused-2-or-12", "S1", "S2", "S3", "S4", "S5", "S6", "S7", "S8"];
 /// The kinds of an answered distance.
 const WAITS: [&str; 4] = ["overdue", "due-now", "to-wait", "no-deadline"];
 
@@ -136,34 +117,51 @@ struct Compared {
     after: Tally<&'static str>,
     overlaps: Overlaps,
     holding: Holding,
+    pairings: Pairings,
     distances: Tally,
     waits: Tally<&'static str>,
 }
 
 impl Compared {
-    fn step(&mut self, wrong: Wrong, flat: &Flat, event: Event) -> Result<Stepped, String> {
-        let library = library_step(flat, event);
-        let model = step_numbers(wrong, flat, event);
+    fn step(
+        &mut self,
+        wrong: Wrong,
+        lent: &Lent,
+        flat: &Flat,
+        event: Event,
+    ) -> Result<Stepped, String> {
+        let library = face::step(lent, flat, event);
+        let model = step_numbers_with(wrong, lent, flat, event);
         if library != model {
-            return Err(differ(&format!("step {event:?} of {flat:?}"), library, model));
+            let what = format!("step {event:?} of {flat:?} with {lent:?}");
+            return Err(differ(&what, library, model));
         }
         self.steps.add(model.number.into());
-        self.before.add(STATES[if model.number == 2 { 0 } else { usize::from(flat.state) }]);
+        let none = [2, 12].contains(&model.number);
+        self.before.add(STATES[if none { 0 } else { usize::from(flat.state) }]);
         if model.number == 0 {
             self.after.add(STATES[usize::from(model.machine.state)]);
         }
-        if let Ok(machine) = flat.machine(Wrong::default()) {
-            self.overlaps.add(&machine, event);
-            self.holding.add(&machine, event);
+        if let (Ok(machine), true) = (flat.machine_with(lent, Wrong::default()), !none) {
+            self.overlaps.add(lent, &machine, event);
+            self.holding.add(lent, &machine, event);
+            self.pairings.add(lent, &machine, event);
         }
         Ok(library)
     }
 
-    fn distance(&mut self, wrong: Wrong, flat: &Flat, stamp: u64) -> Result<Asked, String> {
-        let library = library_distance(flat, stamp);
-        let model = distance(wrong, flat, stamp);
+    fn distance(
+        &mut self,
+        wrong: Wrong,
+        lent: &Lent,
+        flat: &Flat,
+        stamp: u64,
+    ) -> Result<Asked, String> {
+        let library = face::distance(lent, flat, stamp);
+        let model = distance_with(wrong, lent, flat, stamp);
         if library != model {
-            return Err(differ(&format!("distance from {stamp} of {flat:?}"), library, model));
+            let what = format!("distance from {stamp} of {flat:?} with {lent:?}");
+            return Err(differ(&what, library, model));
         }
         self.distances.add(model.number.into());
         if model.number == 0 {
@@ -179,6 +177,7 @@ impl Compared {
         println!("  states after the accepted ones{}", self.after.times());
         self.overlaps.print();
         self.holding.print();
+        self.pairings.print();
         self.distances.print(&format!("distances {what}"));
         println!("  answered{}", self.waits.times());
     }
@@ -221,9 +220,9 @@ fn compare_openings(arguments: &Arguments) -> Result<(), String> {
 fn compare_fixed(arguments: &Arguments) -> Result<(), String> {
     let wrong = arguments.wrong;
     let mut compared = Compared::default();
-    every_state(|flat, event| {
-        compared.step(wrong, flat, event)?;
-        compared.distance(wrong, flat, event.stamp).map(drop)
+    every_state(|lent, flat, event| {
+        compared.step(wrong, lent, flat, event)?;
+        compared.distance(wrong, lent, flat, event.stamp).map(drop)
     })?;
     compared.print("with every place of a state tried");
     Ok(())
@@ -233,14 +232,16 @@ fn compare_random(arguments: &Arguments) -> Result<(), String> {
     let mut random = Random::new(arguments.seed);
     let mut compared = Compared::default();
     for index in 0..arguments.count {
-        let flat = random_state(&mut random);
-        compare_state(&mut random, arguments.wrong, &flat, &mut compared)
+        let lent = random_lent(&mut random);
+        let flat = random_state(&mut random, &lent);
+        compare_state(&mut random, arguments.wrong, &lent, &flat, &mut compared)
             .map_err(|what| format!("state {index} of seed {}: {what}", arguments.seed))?;
     }
     compared.print(&format!("from random states of seed {}", arguments.seed));
     compared.overlaps.complete(arguments.count)?;
     compared.holding.complete(&HOLDING, arguments.count)?;
     compared.holding.complete(&[UP_OF_M_ALONE], arguments.count)?;
+    compared.pairings.complete(arguments.count)?;
     compared.complete(&STEP_NUMBERS, &DISTANCE_NUMBERS, arguments.count)
 }
 
@@ -248,12 +249,13 @@ fn compare_random(arguments: &Arguments) -> Result<(), String> {
 fn compare_state(
     random: &mut Random,
     wrong: Wrong,
+    lent: &Lent,
     flat: &Flat,
     compared: &mut Compared,
 ) -> Result<(), String> {
     for _ in 0..TRIES {
-        compared.step(wrong, flat, random_event(random, flat))?;
-        compared.distance(wrong, flat, random_stamp(random, flat))?;
+        compared.step(wrong, lent, flat, random_event(random, lent, flat))?;
+        compared.distance(wrong, lent, flat, random_stamp(random, lent, flat))?;
     }
     Ok(())
 }
@@ -266,6 +268,7 @@ fn compare_walks(arguments: &Arguments) -> Result<(), String> {
     compared.print(&format!("in {walks} walks of seed {}", arguments.seed));
     compared.overlaps.complete(walks)?;
     compared.holding.complete(&HOLDING, arguments.count)?;
+    compared.pairings.complete(walks)?;
     compared.complete(&WALK_STEP_NUMBERS, &WALK_DISTANCE_NUMBERS, arguments.count)
 }
 
@@ -287,9 +290,11 @@ fn every_walk(
     Ok(walks)
 }
 
-/// The calls of a walk from opening on, and what they were answered.
+/// The calls of a walk from opening on, and what they were answered; the same list is
+/// lent with each.
 struct Walk {
     settings: RawSettings,
+    lent: Lent,
     calls: Vec<Call>,
 }
 
@@ -301,7 +306,8 @@ struct Call {
 }
 
 /// What a host has in hand: the machine, the committed line and the screen.
-struct Host {
+struct Host<'a> {
+    lent: &'a Lent,
     machine: Flat,
     line: Vec<u16>,
     screen: Vec<u16>,
@@ -314,24 +320,25 @@ fn compare_walk(
 ) -> Result<Walk, String> {
     let raw = right_settings(random);
     let opened = compare_open(wrong, raw)?;
-    let mut host = Host { machine: opened.machine, line: vec![], screen: vec![] };
-    let hands = Hands::random(random);
+    let lent = if random.once_in(3) { NO_PAIRS.clone() } else { right_lent(random) };
+    let mut host = Host { lent: &lent, machine: opened.machine, line: vec![], screen: vec![] };
+    let hands = Hands::random(random, &lent);
     let count = random.pick(&[10, 30, 30, 60, 200]);
     let (mut events, mut calls) = (vec![], vec![]);
     for _ in 0..random.place(count) {
-        let machine = host.machine.machine(Wrong::default());
+        let machine = host.machine.machine_with(&lent, Wrong::default());
         let machine = machine.map_err(|_| format!("no machine was handed back: {host:?}"))?;
         let event = match thumb_release(random, &host.machine) {
             Some(event) => event,
-            None => next_event(random, &machine, &hands, true),
+            None => next_event(random, &lent, &machine, &hands, true),
         };
         events.push((event.kind, event.key, event.stamp));
         let call = walk_on(random, wrong, &mut host, event, compared).map_err(|what| {
-            format!("{what}\nT J L solo {raw:?}, kinds, keys and stamps {events:?}")
+            format!("{what}\nT J L solo {raw:?}, {lent:?}, kinds, keys and stamps {events:?}")
         })?;
         calls.push(call);
     }
-    Ok(Walk { settings: raw, calls })
+    Ok(Walk { settings: raw, lent, calls })
 }
 
 /// Now and then in S5 its thumb goes up soon, which is what leads to S6.
@@ -349,25 +356,26 @@ fn walk_on(
     event: Event,
     compared: &mut Compared,
 ) -> Result<Call, String> {
-    let stepped = compared.step(wrong, &host.machine, event)?;
+    let lent = host.lent;
+    let stepped = compared.step(wrong, lent, &host.machine, event)?;
     host.take(&stepped)?;
     let last = host.machine.last.ms;
-    let now = compared.distance(wrong, &host.machine, last)?;
+    let now = compared.distance(wrong, lent, &host.machine, last)?;
     let due = last.saturating_add_signed(now.milliseconds);
     let far = last.saturating_add(random.below(150_000));
     let out = random.pick(&[last.wrapping_sub(1), LARGEST_STAMP, LARGEST_STAMP + 1, u64::MAX]);
     let mut asked = vec![(last, now)];
     for stamp in [due.saturating_sub(1), due, due.saturating_add(1), far, out] {
-        asked.push((stamp, compared.distance(wrong, &host.machine, stamp)?));
+        asked.push((stamp, compared.distance(wrong, lent, &host.machine, stamp)?));
     }
     Ok(Call { event, stepped, asked })
 }
 
-impl Host {
+impl Host<'_> {
     /// Does what a step asks for; the screen is then the committed line and the
-    /// character that waits.
+    /// characters that wait.
     fn take(&mut self, stepped: &Stepped) -> Result<(), String> {
-        if stepped.backspace == 1 {
+        for _ in 0..stepped.backspaces {
             self.screen.pop();
             if !self.screen.starts_with(&self.line) {
                 return Err(format!("a backspace takes a committed sign: {stepped:?}"));
@@ -377,8 +385,10 @@ impl Host {
         self.screen.extend(sent.iter().filter(|sign| **sign != 0));
         self.line.extend([stepped.first, stepped.second].iter().filter(|word| **word != 0));
         self.machine = stepped.machine;
-        let waiting = self.machine.machine(Wrong::default()).ok().and_then(|m| shown(&m.resting));
-        if self.screen == [&self.line[..], waiting.map(word).as_slice()].concat() {
+        let machine = self.machine.machine_with(self.lent, Wrong::default());
+        let waiting = machine.map_or(vec![], |machine| shown(&machine.resting));
+        let waiting: Vec<u16> = waiting.into_iter().map(word).collect();
+        if self.screen == [&self.line[..], &waiting].concat() {
             Ok(())
         } else {
             Err(format!("the screen is not the line and what waits: {stepped:?}\n{self:?}"))
@@ -386,9 +396,9 @@ impl Host {
     }
 }
 
-impl Debug for Host {
+impl Debug for Host<'_> {
     fn fmt(&self, f: &mut Formatter) -> std::fmt::Result {
-        let Host { machine, line, screen } = self;
+        let Host { machine, line, screen, .. } = self;
         write!(f, "line {line:x?}\nscreen {screen:x?}\n{machine:?}")
     }
 }

@@ -7,18 +7,20 @@
 
 use std::fmt::Debug;
 
+use trabeculon_model::lists::right_lent;
 use trabeculon_model::live::{Stepped, Wrong};
 use trabeculon_model::model::Event;
 use trabeculon_model::moved::{
     moved_event, moved_flat, moved_stamp, moves, one_move, stays, MOVES,
 };
+use trabeculon_model::pairs::Lent;
 use trabeculon_model::random::Random;
 use trabeculon_model::states::{random_event, random_stamp, right_state};
 use trabeculon_model::tally::Tally;
 
 use crate::{
-    compare_open, every_walk, library_distance, library_step, Arguments, Compared, Walk,
-    WALK_DISTANCE_NUMBERS, WALK_STEP_NUMBERS,
+    compare_open, every_walk, face, Arguments, Compared, Walk, WALK_DISTANCE_NUMBERS,
+    WALK_STEP_NUMBERS,
 };
 
 pub fn compare_all(arguments: &Arguments) -> Result<(), String> {
@@ -36,7 +38,8 @@ fn compare_walks(arguments: &Arguments) -> Result<(), String> {
             ways.add(way);
             compare_walk(arguments.wrong, &walk, k, &mut compared).map_err(|what| {
                 let events: Vec<Event> = walk.calls.iter().map(|call| call.event).collect();
-                format!("moved by {k}: {what}\nT J L solo {:?}, {events:?}", walk.settings)
+                let (raw, lent) = (walk.settings, &walk.lent);
+                format!("moved by {k}: {what}\nT J L solo {raw:?}, {lent:?}, {events:?}")
             })
         })
     })?;
@@ -49,16 +52,18 @@ fn compare_walks(arguments: &Arguments) -> Result<(), String> {
 /// The calls of a walk from opening on, all of their stamps moved. Until an event is
 /// accepted the machine is the fresh one, 0 its last stamp.
 fn compare_walk(wrong: Wrong, walk: &Walk, k: u64, compared: &mut Compared) -> Result<(), String> {
+    let lent = &walk.lent;
     let mut machine = compare_open(wrong, walk.settings)?.machine;
     let mut accepted = false;
     for call in &walk.calls {
         accepted |= call.stepped.number == 0;
-        let right = moved_answer(call.stepped, if accepted { k } else { 0 });
+        let right = moved_answer(lent, call.stepped, if accepted { k } else { 0 });
         let mut compare = || {
-            same(compared.step(wrong, &machine, moved_event(call.event, k))?, right)?;
+            same(compared.step(wrong, lent, &machine, moved_event(call.event, k))?, right)?;
             let mut stay = call.asked.iter().filter(|(stamp, _)| stays(*stamp, k));
             stay.try_for_each(|(stamp, asked)| {
-                same(compared.distance(wrong, &right.machine, moved_stamp(*stamp, k))?, *asked)
+                let stamp = moved_stamp(*stamp, k);
+                same(compared.distance(wrong, lent, &right.machine, stamp)?, *asked)
             })
         };
         compare().map_err(|what| format!("{what}\nat {:?}", call.event))?;
@@ -73,21 +78,22 @@ fn compare_states(arguments: &Arguments) -> Result<(), String> {
     let mut random = Random::new(seed);
     let (mut compared, mut ways) = (Compared::default(), Tally::default());
     for index in 0..arguments.count {
-        let flat = right_state(&mut random);
-        let event = random_event(&mut random, &flat);
-        let stamp = random_stamp(&mut random, &flat);
+        let lent = right_lent(&mut random);
+        let flat = right_state(&mut random, &lent);
+        let event = random_event(&mut random, &lent, &flat);
+        let stamp = random_stamp(&mut random, &lent, &flat);
         let stamps = [flat.last.ms, event.stamp, stamp];
         let Some((way, k)) = one_move(&mut random, &stamps) else { continue };
         ways.add(way);
-        let moved = moved_flat(&flat, k);
+        let moved = moved_flat(&lent, &flat, k);
         let mut compare = || {
-            let stepped = compared.step(wrong, &moved, moved_event(event, k))?;
-            same(stepped, moved_answer(library_step(&flat, event), k))?;
-            let asked = compared.distance(wrong, &moved, moved_stamp(stamp, k))?;
-            same(asked, library_distance(&flat, stamp))
+            let stepped = compared.step(wrong, &lent, &moved, moved_event(event, k))?;
+            same(stepped, moved_answer(&lent, face::step(&lent, &flat, event), k))?;
+            let asked = compared.distance(wrong, &lent, &moved, moved_stamp(stamp, k))?;
+            same(asked, face::distance(&lent, &flat, stamp))
         };
         compare().map_err(|what| {
-            let before = format!("{event:?} and distance from {stamp} of {flat:?}");
+            let before = format!("{event:?} and distance from {stamp} of {flat:?}, {lent:?}");
             format!("state {index} of seed {seed}, moved by {k}: {what}\n{before}")
         })?;
     }
@@ -97,8 +103,8 @@ fn compare_states(arguments: &Arguments) -> Result<(), String> {
 }
 
 /// An answer with the stamps of its machine moved.
-fn moved_answer(stepped: Stepped, k: u64) -> Stepped {
-    Stepped { machine: moved_flat(&stepped.machine, k), ..stepped }
+fn moved_answer(lent: &Lent, stepped: Stepped, k: u64) -> Stepped {
+    Stepped { machine: moved_flat(lent, &stepped.machine, k), ..stepped }
 }
 
 fn same<T: Debug + PartialEq>(after: T, right: T) -> Result<(), String> {

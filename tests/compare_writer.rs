@@ -9,7 +9,7 @@ use trabeculon_model::program::cut_hex;
 use trabeculon_model::random::Random;
 use trabeculon_model::tally::Tally;
 
-use crate::{library_read_log, Arguments, GUARD};
+use crate::{face, Arguments, GUARD};
 
 extern "C" {
     fn trabeculon_write_drill(
@@ -106,7 +106,7 @@ fn read_back(random: &mut Random, written: &Drill, line: &[u16], run: &[u8]) -> 
     let mut out = random.bytes(room + GUARD);
     let right: Vec<u8> = line.iter().flat_map(|word| word.to_be_bytes()).collect();
     let right = [&right, &out[room..]].concat();
-    let answer = library_read_log(&run[..length], &mut out[..room]);
+    let answer = face::read_log(&run[..length], &mut out[..room]);
     let words = line.len() as u64;
     if answer != (Answer { number: 0, waiting: 0, words, offset: written.bytes }) {
         return Err(format!("read back: {answer:?}"));

@@ -335,9 +335,9 @@ const SOUGHT: [((u64, u64, u64), (u16, u8)); 12] = [
 fn check_longest() -> Result<(), String> {
     let mut near = vec![];
     for ((t, j, l), (ts, n)) in SOUGHT {
-        let (s, lent) = (settings(t, j, l, 1)?, lent(ts, n));
+        let (s, lent) = (settings(t, j, l, 0)?, lent(ts, n));
         let longest = s.longest_wait_with(&lent);
-        let found = longest_found(s, &lent);
+        let found = longest_found(s, &lent).max(longest_found(settings(t, j, l, 1)?, &lent));
         let what = format!("T={t} J={j} L={l} T_s={ts} N={n}");
         expect(&format!("{what}, {found} within {longest}"), found <= longest, true)?;
         near.push(format!("{found} of {longest}"));
@@ -384,8 +384,10 @@ const EVENTS: [(u8, u8); 9] =
 /// At once, just before the deadline, and around equal gaps and the share of N.
 fn stamps_to_try(lent: &Lent, machine: &Machine) -> Vec<u64> {
     let last = machine.last;
-    // A thumb may be held for long, its deadline never come.
-    let Some(due) = due(lent, machine) else { return vec![last] };
+    // A thumb that has no deadline may be held for long.
+    let Some(due) = due(lent, machine) else {
+        return vec![last, last + machine.settings.b(), last + 2 * machine.settings.b()];
+    };
     let (n, l) = (u64::from(lent.n), u64::from(machine.settings.numbers().2));
     let turn = match machine.resting {
         Resting::S4 { m, o, .. } => o + (o - m),

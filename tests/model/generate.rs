@@ -177,7 +177,7 @@ fn accepted_event(random: &mut Random, lent: &Lent, machine: &Machine, hands: &H
             return event;
         }
     }
-    if !lent.pairs.is_empty() && random.once_in(3) {
+    if !lent.pairs.is_empty() && !random.once_in(3) {
         if let Some(event) = pair_event(random, lent, machine, hands) {
             return event;
         }
@@ -211,7 +211,7 @@ fn pair_event(random: &mut Random, lent: &Lent, machine: &Machine, hands: &Hands
     let (_, _, l, _) = machine.settings.numbers();
     let (kind, key, stamp) = match machine.resting {
         Resting::S2 { key, m } => {
-            let soon = last + random.below(60);
+            let soon = last + random.between(1, 60);
             let late = due(lent, machine)?.saturating_sub(random.between(1, 40));
             let equal = last + (last - m);
             let partner = partner(random, lent, machine, key)?;
@@ -231,9 +231,11 @@ fn pair_event(random: &mut Random, lent: &Lent, machine: &Machine, hands: &Hands
         Resting::S8 { m, second, k, r, .. } => {
             let by_l = k + up_to(r - k, l.into());
             let by_n = k + up_to(r - k, lent.n.into());
-            match random.below(8) {
-                0 | 1 => third(random, lent, machine, hands, second, k + (k - m))?,
-                2 => (3, random.pick(&[0, 1]), k + (k - m)),
+            let equal = random.pick(&[k + (k - m), last]);
+            match random.below(10) {
+                0 | 1 => third(random, lent, machine, hands, second, equal)?,
+                2 => (3, random.pick(&[0, 1]), equal),
+                3 => (5, 0, last),
                 _ => (2, second, random.pick(&[by_l, by_l, by_n, r])),
             }
         }

@@ -14,6 +14,7 @@ pub mod model;
 pub mod moved;
 pub mod notation;
 pub mod overlaps;
+pub mod pairings;
 pub mod pairs;
 pub mod pieces;
 pub mod program;
