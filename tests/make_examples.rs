@@ -8,13 +8,16 @@ use std::path::Path;
 use std::process::ExitCode;
 
 use trabeculon_model::drill::drill;
-use trabeculon_model::log::{log_of, play};
+use trabeculon_model::log::{log_with, play};
 use trabeculon_model::notation::events;
+use trabeculon_model::pairs::{pair, Lent, Pair};
 
 struct Example {
     name: &'static str,
     /// T, J, L, solo.
     settings: (u16, u8, u8, u8),
+    /// Pairs, T_s, N.
+    list: Option<(&'static [Pair], u16, u8)>,
     keystrokes: &'static str,
     /// Place and value of a damaged byte.
     damage: Option<(usize, u8)>,
@@ -27,10 +30,14 @@ struct Example {
 const USUAL: (u16, u8, u8, u8) = (100, 50, 50, 0);
 const SLOW: (u16, u8, u8, u8) = (1_000, 50, 50, 0);
 
-const EXAMPLES: [Example; 9] = [
+/// か and さ together give ゎ; T_s=100, N=50.
+const KA_SA: Option<(&[Pair], u16, u8)> = Some((&[pair(21, 24, 0x308e)], 100, 50));
+
+const EXAMPLES: [Example; 11] = [
     Example {
         name: "saigai",
         settings: USUAL,
+        list: None,
         keystrokes: "24@0 24up@60 18@100 18up@150 21@200 R@230 21up@270 Rup@280 18@300 tick@400",
         damage: None,
         line: None,
@@ -57,6 +64,7 @@ play prints さいがい, and nothing waits.
     Example {
         name: "saikai",
         settings: USUAL,
+        list: None,
         keystrokes: "24@0 24up@60 18@100 18up@150 21@200 R@230 21up@250 Rup@280 18@300 tick@400",
         damage: None,
         line: None,
@@ -85,6 +93,7 @@ play prints さいかい, and nothing waits.
     Example {
         name: "damaged",
         settings: USUAL,
+        list: None,
         keystrokes: "24@0 24up@60 18@100 18up@150 21@200 R@230 21up@270 Rup@280 18@300 tick@400",
         damage: Some((73, 9)),
         line: None,
@@ -108,6 +117,7 @@ play prints さい, which was committed before the damage, and where it is.
     Example {
         name: "equal-gap",
         settings: (100, 60, 50, 0),
+        list: None,
         keystrokes: "21@0 R@30 24@60 tick@126 tick@127",
         damage: None,
         line: None,
@@ -132,6 +142,7 @@ play prints がさ, and nothing waits.
     Example {
         name: "slow-plain",
         settings: SLOW,
+        list: None,
         keystrokes: "21@0 R@500 21up@899",
         damage: None,
         line: None,
@@ -153,6 +164,7 @@ play prints か, and nothing waits.
     Example {
         name: "slow-chord",
         settings: SLOW,
+        list: None,
         keystrokes: "21@0 R@500 21up@900",
         damage: None,
         line: None,
@@ -175,6 +187,7 @@ play prints が, and nothing waits.
     Example {
         name: "drill",
         settings: USUAL,
+        list: None,
         keystrokes: "24@0 24up@0 18@250 18up@250 21@500 R@500 tick@500 Rup@500 21up@500 \
                      18@750 18up@750",
         damage: None,
@@ -204,6 +217,7 @@ play prints さいがい, and nothing waits.
     Example {
         name: "held",
         settings: USUAL,
+        list: None,
         keystrokes: "21@0 21@500 21@533 R@550 21@566 21up@580 Rup@590 21@700 21up@750",
         damage: None,
         line: None,
@@ -231,6 +245,7 @@ printed かかかがか.
     Example {
         name: "seven",
         settings: USUAL,
+        list: None,
         keystrokes: "10@0 11@20 12@40 13@60 14@80 15@100 15@130 11up@150 16@160 17@170 tick@270",
         damage: None,
         line: None,
@@ -254,6 +269,55 @@ Seven fingers (request 7/12): a press of a new key while six are held is refused
 play prints うしてけせは, which was committed before that, and where it is. と waits.
 ",
         expected: "うしてけせは\nrefused 11 at 125\n",
+    },
+    Example {
+        name: "pair",
+        settings: USUAL,
+        list: KA_SA,
+        keystrokes: "21@0 24@30 21up@59 24up@87",
+        damage: None,
+        line: None,
+        text: "\
+A chord of two letters (request 9/12): the list has one pair, keys 21 and 24, which
+together give ゎ. 70 bytes, T=100, J=L=50, solo 0; T_s=100, N=50.
+
+   at  stamp  typed                what happens
+    0         settings
+    8         list of pairs        T_s, N, and the pair
+   18      0  key 21 (か) down     か waits
+   31     30  key 24 (さ) down     a pair: both wait until 130
+   44     59  key 21 up            29 ms of overlap after 30 ms alone, under half
+                                   of the whole: both wait until 88
+   57     87  key 24 up            of the 57 ms that key 24 was down, key 21 was
+                                   down 29, not under half: ゎ is committed
+
+play prints ゎ, and nothing waits.
+",
+        expected: "ゎ\nwaiting 0\n",
+    },
+    Example {
+        name: "pair-late",
+        settings: USUAL,
+        list: KA_SA,
+        keystrokes: "21@0 24@30 21up@59 24up@88",
+        damage: None,
+        line: None,
+        text: "\
+The log of pair with key 24 released 1 ms later, which is too late. 70 bytes, T=100,
+J=L=50, solo 0; T_s=100, N=50.
+
+   at  stamp  typed                what happens
+    0         settings
+    8         list of pairs        T_s, N, and the pair
+   18      0  key 21 (か) down     か waits
+   31     30  key 24 (さ) down     a pair: both wait until 130
+   44     59  key 21 up            29 ms of overlap after 30 ms alone, under half
+                                   of the whole: both wait until 88
+   57     88  key 24 up            late: か and さ are committed
+
+play prints かさ, and nothing waits.
+",
+        expected: "かさ\nwaiting 0\n",
     },
 ];
 
@@ -293,7 +357,8 @@ fn make(folder: &Path, example: &Example) -> Result<()> {
 }
 
 fn log(example: &Example) -> Option<Vec<u8>> {
-    let mut log = log_of(example.settings, &events(example.keystrokes)?);
+    let lent = example.list.map(|(pairs, ts, n)| Lent::new(pairs, ts, n));
+    let mut log = log_with(example.settings, lent.as_ref(), &events(example.keystrokes)?);
     if let Some((place, value)) = example.damage {
         *log.get_mut(place)? = value;
     }
