@@ -5,7 +5,9 @@
 //!   bench once READER SIZE
 //!
 //! 50 MiB of valid typed logs of at most 65,536 bytes each are made in memory, and as
-//! much again of 1 MiB each, to be read in pieces (in_pieces.rs). Before timing, all
+//! much again of 1 MiB each, to be read in pieces (in_pieces.rs); first logs with no list
+//! of pairs, then as many that have one (9/12), in which two letters are often typed
+//! together. Before timing, all
 //! readers are compared with the model on every log. In each round every log is read
 //! by every reader, one right after the other; which goes first changes from log to
 //! log and from round to round. Each reader has one run of its own, written in full
@@ -76,7 +78,10 @@ fn timed_all(rounds: usize, mib: usize) -> Done {
     if rounds == 0 || !(1..=1000).contains(&mib) {
         return None;
     }
-    Some(whole_logs(mib, rounds).and_then(|()| in_pieces::run(mib, rounds)))
+    let timed =
+        |lists| whole_logs(mib, rounds, lists).and_then(|()| in_pieces::run(mib, rounds, lists));
+    let compared = in_pieces::compare_all();
+    Some(compared.and_then(|()| timed(false)).and_then(|()| timed(true)))
 }
 
 fn once(reader: &str, size: usize) -> Done {
@@ -85,10 +90,10 @@ fn once(reader: &str, size: usize) -> Done {
     Some(Ok(()))
 }
 
-fn whole_logs(mib: usize, rounds: usize) -> Result<(), String> {
+fn whole_logs(mib: usize, rounds: usize, lists: bool) -> Result<(), String> {
     let readers: [(&str, whole::Reader); 2] =
         [("proved library", library_read_log), ("Rust reader", reader::read_log)];
-    let [library, rust] = whole::run(mib, rounds, readers)?;
+    let [library, rust] = whole::run(mib, rounds, lists, readers)?;
     whole::report_ratio("library / Rust", &library, &rust);
     Ok(())
 }

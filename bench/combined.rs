@@ -61,7 +61,7 @@ fn compare(mib: usize, rounds: usize) -> Result<(), String> {
         ("combined library", combined),
         ("Rust reader", reader::read_log),
     ];
-    let [alone, combined, rust] = whole::run(mib, rounds, readers)?;
+    let [alone, combined, rust] = whole::run(mib, rounds, false, readers)?;
     whole::report_ratio("reader alone / Rust", &alone, &rust);
     whole::report_ratio("combined library / Rust", &combined, &rust);
     let [_, _, fastest] = ratios(&combined, &rust);

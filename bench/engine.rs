@@ -1,4 +1,4 @@
-//! The machine of document 01, with the requests up to 7/12, as a Rust programmer would
+//! The machine of document 01, with the requests up to 9/12, as a Rust programmer would
 //! write it for speed. All Rust readers of the bench stand on it:
 //!
 //! - One jump by the state, and one by the kind of the event.
@@ -8,6 +8,8 @@
 //! - The fields are those of the C face's numbers. What a state doesn't use is left as it
 //!   is while events are taken, and made 0 only where numbers are handed back.
 //! - An event gives what rests next, which is kept once its words fit.
+//! - A list of pairs is lent with every event; one of no pairs is asked for its length and
+//!   nothing else.
 
 use trabeculon_model::live::{at, Flat};
 
@@ -77,6 +79,98 @@ pub fn in_range(t: u16, j: u8, l: u8, solo: u8) -> bool {
     (50..=1000).contains(&t) && percent.contains(&j) && percent.contains(&l) && solo <= 1
 }
 
+/// What a log's list lends: one number a pair (key, key, character from the top), T_s and N.
+#[derive(Clone, Copy)]
+pub struct Pairs<'a> {
+    pub list: &'a [u32],
+    pub ts: u64,
+    pub n: u64,
+}
+
+/// So many pairs may be lent.
+pub const MOST_PAIRS: usize = 64;
+pub const NO_PAIRS: Pairs<'static> = Pairs { list: &[], ts: 50, n: 1 };
+/// How long a list record is without its pairs: tag, length, T_s, N.
+pub const LIST_HEAD: usize = 6;
+
+impl Pairs<'_> {
+    /// The character of two keys; 0 if they are no pair.
+    #[inline(always)]
+    pub fn of(self, a: u8, b: u8) -> u16 {
+        if self.list.is_empty() {
+            return 0;
+        }
+        find(self.list, a, b)
+    }
+
+    /// Whether a key waits still, since it is in some pair.
+    #[inline(always)]
+    fn waits(self, key: u8, since: u64) -> bool {
+        !self.list.is_empty() && since * self.n < self.ts * (100 - self.n) && has(self.list, key)
+    }
+
+    /// Whether it is accepted.
+    pub fn is_good(self) -> bool {
+        let good = |number: &u32| {
+            let [first, second, ..] = number.to_be_bytes();
+            let character = number & 0xffff;
+            let surrogate = (0xd800..0xe000).contains(&character);
+            first < 31 && second < 31 && first != second && character >= 0x20 && !surrogate
+        };
+        let times = (50..=1000).contains(&self.ts) && (1..=99).contains(&self.n);
+        times
+            && self.list.len() <= MOST_PAIRS
+            && self.list.iter().all(good)
+            && (1..self.list.len()).all(|end| {
+                let [first, second, ..] = self.list[end].to_be_bytes();
+                find(&self.list[..end], first, second) == 0
+            })
+    }
+}
+
+#[inline(never)]
+fn find(list: &[u32], a: u8, b: u8) -> u16 {
+    let [one, other] = [(a, b), (b, a)].map(|(a, b)| u32::from_be_bytes([a, b, 0, 0]) >> 16);
+    let is_of = |number: &&u32| **number >> 16 == one || **number >> 16 == other;
+    list.iter().find(is_of).map_or(0, |number| *number as u16)
+}
+
+#[inline(never)]
+fn has(list: &[u32], key: u8) -> bool {
+    list.iter().any(|number| {
+        let [first, second, ..] = number.to_be_bytes();
+        first == key || second == key
+    })
+}
+
+/// Where a log's list stands: straight after the settings.
+pub const LIST_OFFSET: u64 = 8;
+
+/// Keeps some bytes of a list's record behind those that came, from the first pair's on,
+/// in the run where its pairs live.
+#[cold]
+pub fn keep_pairs(run: &mut [u32; MOST_PAIRS], count: u64, bytes: &[u8]) {
+    for (index, byte) in (count..).zip(bytes).filter(|(index, _)| *index >= LIST_HEAD as u64) {
+        let place = (index - LIST_HEAD as u64) as usize;
+        let shift = 24 - 8 * (place % 4);
+        if let Some(number) = run.get_mut(place / 4) {
+            *number = *number & !(0xff << shift) | u32::from(*byte) << shift;
+        }
+    }
+}
+
+/// How many pairs a whole list record of so many bytes has, if it is accepted.
+#[cold]
+pub fn accepted_list(run: &[u32; MOST_PAIRS], count: u64, ts: u16, n: u8) -> Result<usize, u32> {
+    let length = count as usize;
+    if length < LIST_HEAD || (length - LIST_HEAD) % 4 != 0 {
+        return Err(7);
+    }
+    let count = (length - LIST_HEAD) / 4;
+    let pairs = Pairs { list: run.get(..count).ok_or(12u32)?, ts: ts.into(), n: n.into() };
+    pairs.is_good().then_some(count).ok_or(12)
+}
+
 /// The words of one step: 0 where there is none, and no second without a first.
 struct Words(u16, u16);
 
@@ -117,7 +211,9 @@ struct Resting {
     state: u8,
     key: u8,
     thumb: u8,
+    second: u8,
     m: u64,
+    k: u64,
     o: u64,
     r: u64,
 }
@@ -133,35 +229,38 @@ impl Engine {
         in_range(t, j, l, solo).then(|| Engine::of(&opened))
     }
 
+    /// How many characters wait.
     #[inline(always)]
-    pub fn waits(&self) -> bool {
-        !matches!(self.resting.state, 1 | 3)
+    pub fn waiting(&self) -> u32 {
+        waiting(self.resting.state)
     }
 
     /// The machine that these numbers name. They are well formed.
     #[inline(always)]
     pub fn of(machine: &Flat) -> Engine {
-        let Flat { last, m, o, r, held, t, j, l, solo, state, key, thumb } = *machine;
-        let resting = Resting { state, key, thumb, m: m.ms, o: o.ms, r: r.ms };
+        let Flat { last, m, k, o, r, held, second, t, j, l, solo, state, key, thumb } = *machine;
+        let [m, k, o, r] = [m, k, o, r].map(|stamp| stamp.ms);
+        let resting = Resting { state, key, thumb, second: second as u8, m, k, o, r };
         let (t, j, l) = (t.into(), j.into(), l.into());
-        Engine { t, j, l, solo: solo == 1, last: last.ms, held: held as u32, resting }
+        Engine { t, j, l, solo: solo == 1, last: last.ms, held, resting }
     }
 
     /// The numbers after some events, given those before.
     #[inline(always)]
     pub fn numbers(&self, before: &Flat) -> Flat {
-        let Resting { state, key, thumb, m, o, r } = self.resting;
+        let Resting { state, key, thumb, second, m, k, o, r } = self.resting;
         let (key, m) = if matches!(state, 1 | 3) { (0, 0) } else { (key, m) };
-        let (thumb, o) = if state < 3 { (0, 0) } else { (thumb, o) };
-        let r = if state < 6 { 0 } else { r };
-        let (last, held) = (at(self.last), self.held.into());
-        Flat { last, m: at(m), o: at(o), r: at(r), held, state, key, thumb, ..*before }
+        let (thumb, o) = if matches!(state, 3..=6) { (thumb, o) } else { (0, 0) };
+        let (second, k) = if state < 7 { (0, 0) } else { (second.into(), k) };
+        let r = if matches!(state, 6 | 8) { r } else { 0 };
+        let ([last, m, k, o, r], held) = ([self.last, m, k, o, r].map(at), self.held);
+        Flat { last, m, k, o, r, held, second, state, key, thumb, ..*before }
     }
 
     /// Takes an event and writes its words. How many bytes; nothing is done where it is
     /// refused.
     #[inline(always)]
-    pub fn put(&mut self, event: Event, out: &mut [u8]) -> Result<usize, u32> {
+    pub fn put(&mut self, pairs: Pairs, event: Event, out: &mut [u8]) -> Result<usize, u32> {
         let Event { kind, key, stamp } = event;
         if kind > 6 || key >= KEYS_OF_KIND[usize::from(kind)] {
             return Err(3);
@@ -173,7 +272,7 @@ impl Engine {
             return Err(5);
         }
         let (kind, held) = self.hold(kind, key)?;
-        let (words, resting) = self.take(kind, key, stamp);
+        let (words, resting) = self.take(pairs, kind, key, stamp);
         let bytes = words.write(out).ok_or(8u32)?;
         self.resting = resting;
         self.last = stamp;
@@ -199,26 +298,31 @@ impl Engine {
     }
 
     #[inline(always)]
-    fn take(&self, kind: u8, k: u8, now: u64) -> Effect {
+    fn take(&self, pairs: Pairs, kind: u8, k: u8, now: u64) -> Effect {
         match self.resting.state {
             1 => (NOTHING, self.resting.in_s1(kind, k, now)),
-            2 => self.in_s2(kind, k, now),
+            2 => self.in_s2(pairs, kind, k, now),
             3 => self.in_s3(kind, k, now),
             4 => self.in_s4(kind, k, now),
             5 => self.in_s5(kind, k, now),
-            _ => self.in_s6(kind, k, now),
+            6 => self.in_s6(kind, k, now),
+            7 => self.in_s7(pairs, kind, k, now),
+            _ => self.in_s8(pairs, kind, k, now),
         }
     }
 
     // What is due comes first; it leaves S1, where no event commits.
 
     #[inline(always)]
-    fn in_s2(&self, kind: u8, k: u8, now: u64) -> Effect {
+    fn in_s2(&self, pairs: Pairs, kind: u8, k: u8, now: u64) -> Effect {
         let same @ Resting { key, m, .. } = self.resting;
-        if (now - m) * self.j >= self.t * (100 - self.j) {
+        if (now - m) * self.j >= self.t * (100 - self.j) && !pairs.waits(key, now - m) {
             return (plain(key), same.in_s1(kind, k, now));
         }
         match kind {
+            1 if pairs.of(key, k) != 0 => {
+                (NOTHING, Resting { state: 7, second: k, k: now, ..same })
+            }
             1 => (plain(key), same.lone_key(k, now)),
             2 if k == key => (plain(key), same.at_rest()),
             3 => (NOTHING, Resting { state: 4, thumb: k, o: now, ..same }),
@@ -303,6 +407,60 @@ impl Engine {
         }
     }
 
+    // Two letters wait, which only a log with pairs comes to.
+
+    #[inline(never)]
+    fn in_s7(&self, pairs: Pairs, kind: u8, new: u8, now: u64) -> Effect {
+        let same @ Resting { key, m, second, k, .. } = self.resting;
+        let pair = Words(pairs.of(key, second), 0);
+        if now - k >= pairs.ts {
+            return (pair, same.in_s1(kind, new, now));
+        }
+        match kind {
+            1 | 3 => self.third(pairs, kind, new, now),
+            2 if new == key && 100 * (now - k) < pairs.n * (now - m) => {
+                (NOTHING, Resting { state: 8, r: now, ..same })
+            }
+            2 if new == key || new == second => (pair, same.at_rest()),
+            5 => (pair, same.at_rest()),
+            _ => (NOTHING, same),
+        }
+    }
+
+    #[inline(never)]
+    fn in_s8(&self, pairs: Pairs, kind: u8, new: u8, now: u64) -> Effect {
+        let same @ Resting { key, second, k, r, .. } = self.resting;
+        if (now - r) * pairs.n >= (r - k) * (100 - pairs.n) {
+            return (two(key, second), same.in_s1(kind, new, now));
+        }
+        match kind {
+            1 | 3 => self.third(pairs, kind, new, now),
+            2 if new == second && 100 * (r - k) < self.l * (now - k) => {
+                (two(key, second), same.at_rest())
+            }
+            2 if new == second => (Words(pairs.of(key, second), 0), same.at_rest()),
+            5 => (Words(pairs.of(key, second), 0), same.at_rest()),
+            _ => (NOTHING, same),
+        }
+    }
+
+    /// A third key, letter or thumb.
+    #[inline(always)]
+    fn third(&self, pairs: Pairs, kind: u8, new: u8, now: u64) -> Effect {
+        let same @ Resting { key, m, second, k, .. } = self.resting;
+        if k - m < now - k {
+            return (Words(pairs.of(key, second), 0), same.in_s1(kind, new, now));
+        }
+        let left = Resting { key: second, m: k, ..same };
+        match kind {
+            3 => (plain(key), Resting { state: 4, thumb: new, o: now, ..left }),
+            _ if pairs.of(second, new) != 0 => {
+                (plain(key), Resting { state: 7, second: new, k: now, ..left })
+            }
+            _ => (two(key, second), same.lone_key(new, now)),
+        }
+    }
+
     #[inline(always)]
     fn mark(&self, thumb: u8) -> Words {
         if self.solo {
@@ -353,6 +511,22 @@ impl Resting {
 #[inline(always)]
 fn plain(key: u8) -> Words {
     Words(FACES[usize::from(key)][0], 0)
+}
+
+/// Two plain characters.
+#[inline(always)]
+fn two(key: u8, second: u8) -> Words {
+    Words(FACES[usize::from(key)][0], FACES[usize::from(second)][0])
+}
+
+/// How many characters wait in a state.
+#[inline(always)]
+pub fn waiting(state: u8) -> u32 {
+    match state {
+        0 | 1 | 3 => 0,
+        7 | 8 => 2,
+        _ => 1,
+    }
 }
 
 #[inline(always)]

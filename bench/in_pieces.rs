@@ -7,6 +7,7 @@ use std::hint::black_box;
 
 use trabeculon_model::generate::{random_case, Case};
 use trabeculon_model::log::{read_log_bytes, Answer};
+use trabeculon_model::pieces::Kept as Numbered;
 use trabeculon_model::random::Random;
 use trabeculon_model::readers::{every_call, random_call, random_cut, Call};
 
@@ -71,7 +72,8 @@ fn compare_readers() -> Result<(u64, u64), String> {
     let (mut tried, mut refused) = (0, 0);
     let mut compare = |call: Call| -> Result<(), String> {
         tried += 1;
-        refused += u64::from(Model::end(call.reader).answer.number == 2);
+        let Numbered { reader, run } = call.kept;
+        refused += u64::from(Model::end(reader, &run).answer.number == 2);
         agrees::<Library>(&call).map_err(|fault| format!("the library differs {fault}"))?;
         agrees::<SameFace>(&call).map_err(|fault| format!("the Rust reader differs {fault}"))
     };
@@ -86,19 +88,20 @@ fn compare_readers() -> Result<(u64, u64), String> {
 /// Gives a piece and says the end, in the reader's way and in the model's. An error if
 /// they differ.
 fn agrees<F: Face>(call: &Call) -> Result<(), String> {
-    let Call { reader, piece, room } = call;
+    let Call { kept: Numbered { reader, run: list }, piece, room } = call;
     let [mut run, mut right] = [vec![0xa5; *room], vec![0xa5; *room]];
-    let calls = [
-        (F::piece(*reader, piece, &mut run), Model::piece(*reader, piece, &mut right)),
-        (F::end(*reader), Model::end(*reader)),
-    ];
+    let [mut left_list, mut right_list] = [*list, *list];
+    let read = F::piece(*reader, &mut left_list, piece, &mut run);
+    let model = Model::piece(*reader, &mut right_list, piece, &mut right);
+    let same_list = Numbered { reader: model.reader, run: right_list }.says(&left_list);
+    let calls = [(read, model), (F::end(*reader, list), Model::end(*reader, list))];
     let same = calls.iter().all(|(read, model)| {
         // Beside 2 byte for byte; else bits above the bytes that came say nothing.
         let exactly = model.answer.number == 2;
         let cleaned = read.reader.clean() == model.reader.clean();
         read.answer == model.answer && cleaned && (!exactly || read.reader == *reader)
     });
-    if same && run == right {
+    if same && run == right && same_list {
         Ok(())
     } else {
         Err(format!("at {reader:?} with {piece:?}, room {room}: {calls:?}, {run:?}, {right:?}"))
@@ -161,16 +164,23 @@ fn timed<R: Kept>(size: usize) -> impl FnMut(&[u8]) {
     }
 }
 
-pub fn run(mib: usize, rounds: usize) -> Result<(), String> {
+/// Compares the readers with the model on logs of any kind.
+pub fn compare_all() -> Result<(), String> {
     compare_random_logs()?;
-    println!("\nin pieces: all three readers agree with the model on {RANDOM_LOGS} random logs");
+    println!("in pieces: all three readers agree with the model on {RANDOM_LOGS} random logs");
     let (tried, refused) = compare_readers()?;
     println!(
-        "so do the two with the C face on {tried} calls with any readers, {refused} refused 2"
+        "so do the two with the C face on {tried} calls with any readers, {refused} refused 2\n"
     );
-    let logs = make_logs(mib * MIB - MIB / 2, MIB);
+    Ok(())
+}
+
+/// Times the readers on logs of so many MiB, each with a list of pairs or without.
+pub fn run(mib: usize, rounds: usize, lists: bool) -> Result<(), String> {
+    let logs = make_logs(mib * MIB - MIB / 2, MIB, lists);
     let bytes: usize = logs.iter().map(Vec::len).sum();
-    println!("{} valid logs, {bytes} bytes; {rounds} rounds, interleaved log by log", logs.len());
+    let with = if lists { ", each with a list of pairs" } else { "" };
+    println!("{} valid logs, {bytes} bytes{with}; {rounds} rounds, interleaved", logs.len());
     println!("medians in ms; ratios by the median, by the minimum and by each log's fastest");
     println!(
         "{:>8} {:>10} {:>10} {:>10}   {:<21}   {:<21}",
@@ -207,7 +217,7 @@ fn report(size: usize, times: &[Times; 3]) {
 /// Reads one log once, in pieces of this size and with one reader. How many pieces, and
 /// how many events; none if there is no such reader or size.
 pub fn read_once(reader: &str, size: usize) -> Option<(usize, usize)> {
-    let log = &make_logs(1, LENGTH_ONCE)[0];
+    let log = &make_logs(1, LENGTH_ONCE, false)[0];
     if size == 0 {
         return None;
     }

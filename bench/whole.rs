@@ -2,7 +2,7 @@
 
 use std::hint::black_box;
 
-use trabeculon_model::generate::{right_settings, typed_log};
+use trabeculon_model::generate::{right_settings, typed_log, typed_log_with};
 use trabeculon_model::log::{read_log_bytes, Answer, BUFFER};
 use trabeculon_model::random::Random;
 
@@ -12,17 +12,23 @@ pub const SEED: u64 = 20_010_401;
 /// Four bytes for each event of 13 are more than a log can fill.
 const RUN: usize = BUFFER;
 
+/// How many pairs the lists have, one log after the other.
+const LISTS: [usize; 5] = [8, 1, 30, 3, 64];
+
 pub type Reader = fn(&[u8], &mut [u8]) -> Answer;
 
-/// Compares the readers with the model on logs of so many MiB, and times them.
+/// Compares the readers with the model on logs of so many MiB, and times them; each log
+/// with a list of pairs or without.
 pub fn run<const N: usize>(
     mib: usize,
     rounds: usize,
+    lists: bool,
     readers: [(&str, Reader); N],
 ) -> Result<[Times; N], String> {
-    let logs = make_logs(mib << 20, BUFFER);
+    let logs = make_logs(mib << 20, BUFFER, lists);
     let bytes: usize = logs.iter().map(Vec::len).sum();
-    println!("{} valid logs of at most {BUFFER} bytes, {bytes} bytes in all", logs.len());
+    let with = if lists { ", each with a list of pairs" } else { "" };
+    println!("{} valid logs of at most {BUFFER} bytes, {bytes} bytes in all{with}", logs.len());
     let words = compare(&logs, &readers)?;
     println!("all readers agree with the model on every log; {words} words");
     let mut timed = readers.map(|(_, reader)| timed(reader));
@@ -35,15 +41,21 @@ pub fn run<const N: usize>(
 }
 
 /// Logs of so many bytes in all, each of at most `longest`. Half of them have usual
-/// settings, the others any.
-pub fn make_logs(total: usize, longest: usize) -> Vec<Vec<u8>> {
+/// settings, the others any. Lists go from one pair up to 64.
+pub fn make_logs(total: usize, longest: usize, lists: bool) -> Vec<Vec<u8>> {
     let mut random = Random::new(SEED);
     let mut logs = vec![];
     let mut bytes = 0;
     while bytes < total {
         let any = right_settings(&mut random);
         let settings = if logs.len() % 2 == 0 { (100, 50, 50, 0) } else { any };
-        let log = typed_log(&mut random, settings, longest);
+        let log = match lists {
+            true => {
+                let count = LISTS[logs.len() % LISTS.len()];
+                typed_log_with(&mut random, settings, count, longest)
+            }
+            false => typed_log(&mut random, settings, longest),
+        };
         bytes += log.len();
         logs.push(log);
     }

@@ -210,10 +210,9 @@ fn same(given: &Kept, library: &Read, model: &Read) -> bool {
     let kept = given.reader.told == 1 || model.answer.number == 2;
     let begun = right.told == 0 && right.offset == given.reader.offset;
     let free = !kept && begun && given.reader != given.reader.clean();
-    let list = model.kept.numbers_in_use();
     library.answer == model.answer
         && (left == right || free && left.clean() == right.clean())
-        && library.kept.run[..list] == model.kept.run[..list]
+        && model.kept.says(&library.kept.run)
 }
 
 // ---- Single calls ----

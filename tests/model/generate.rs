@@ -2,7 +2,7 @@
 //! rule turns, a fixed set damaged at every place, long typed ones, and typing
 //! without end.
 
-use crate::lists::{boundary_lists, right_lent, wrong_lent};
+use crate::lists::{boundary_lists, right_lent, typed_lent, wrong_lent};
 use crate::log::{
     event_record, list_record, log_of, log_with, read_log, settings_record, split, RawSettings,
     HEADER, SETTINGS_LENGTH,
@@ -721,16 +721,48 @@ fn pairs_of_bytes() -> impl Iterator<Item = (u8, u8)> {
 /// keys, chords with the thumb a little before or after, overlapping keys, some
 /// function keys, and ticks from the host.
 pub fn typed_log(random: &mut Random, raw: RawSettings, bytes: usize) -> Vec<u8> {
-    let count = bytes.saturating_sub(SETTINGS_LENGTH) / EVENT_LENGTH;
+    typed(random, raw, None, bytes)
+}
+
+/// The same with a list of so many pairs, up to 64, whose letters are now and then typed
+/// together.
+pub fn typed_log_with(
+    random: &mut Random,
+    raw: RawSettings,
+    pairs: usize,
+    bytes: usize,
+) -> Vec<u8> {
+    let lent = typed_lent(random, pairs);
+    typed(random, raw, Some(&lent), bytes)
+}
+
+fn typed(random: &mut Random, raw: RawSettings, lent: Option<&Lent>, bytes: usize) -> Vec<u8> {
+    let head = log_with(raw, lent, &[]).len();
+    let count = bytes.saturating_sub(head) / EVENT_LENGTH;
     let mut events = Vec::with_capacity(count + 8);
     let mut now = random.below(1_000_000_000);
     while events.len() < count {
-        type_one(random, now, &mut events);
+        match lent {
+            Some(lent) if random.once_in(4) => type_pair(random, lent, now, &mut events),
+            _ => type_one(random, now, &mut events),
+        }
         now += random.between(70, 220);
     }
     events.sort_by_key(|event| event.stamp);
     events.truncate(count);
-    log_of(raw, &events)
+    log_with(raw, lent, &events)
+}
+
+/// Two letters of a pair one after the other, in either order.
+fn type_pair(random: &mut Random, lent: &Lent, now: u64, events: &mut Vec<Event>) {
+    let Pair { first, second, .. } = random.pick(&lent.pairs);
+    let keys = if random.once_in(2) { [first, second] } else { [second, first] };
+    let later = now + random.between(0, 60);
+    for (key, press) in keys.into_iter().zip([now, later]) {
+        let up = press + random.between(40, 140);
+        events.push(Event { kind: 1, key, stamp: press });
+        events.push(Event { kind: 2, key, stamp: up });
+    }
 }
 
 /// Events without end as in a typed log, in the order of their stamps, and few at a

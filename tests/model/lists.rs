@@ -15,6 +15,11 @@ pub fn right_lent(random: &mut Random) -> Lent {
     Lent { pairs, ts: right_ts(random), n: percent(random) }
 }
 
+/// A list of so many pairs for typing, T_s and N as a desk would set them.
+pub fn typed_lent(random: &mut Random, count: usize) -> Lent {
+    Lent { pairs: right_pairs(random, count.clamp(1, MOST_PAIRS)), ts: 100, n: 50 }
+}
+
 /// So many pairs, none twice, in either order, among no more keys than are needed or
 /// among all.
 fn right_pairs(random: &mut Random, count: usize) -> Vec<Pair> {
