@@ -8,8 +8,8 @@
 //! - The fields are those of the C face's numbers. What a state doesn't use is left as it
 //!   is while events are taken, and made 0 only where numbers are handed back.
 //! - An event gives what rests next, which is kept once its words fit.
-//! - A list of pairs is lent with every event; one of no pairs is asked for its length and
-//!   nothing else.
+//! - A list of pairs is lent with every event. Logs that have none are read by code in
+//!   which nothing asks for it (`NoPairs`).
 
 use trabeculon_model::live::{at, Flat};
 
@@ -79,6 +79,48 @@ pub fn in_range(t: u16, j: u8, l: u8, solo: u8) -> bool {
     (50..=1000).contains(&t) && percent.contains(&j) && percent.contains(&l) && solo <= 1
 }
 
+/// What is lent with every event: a log's list, or that there is none.
+pub trait Lent: Copy {
+    /// Whether there are pairs, so that two letters may wait.
+    const ANY: bool;
+    /// The character of two keys; 0 if they are no pair.
+    fn of(self, a: u8, b: u8) -> u16;
+    /// Whether a key waits still, since it is in some pair.
+    fn waits(self, key: u8, since: u64) -> bool;
+    /// What an event does while two letters wait.
+    fn in_s7(self, engine: Engine, kind: u8, new: u8, now: u64) -> Effect;
+    fn in_s8(self, engine: Engine, kind: u8, new: u8, now: u64) -> Effect;
+}
+
+#[derive(Clone, Copy)]
+pub struct NoPairs;
+
+impl Lent for NoPairs {
+    const ANY: bool = false;
+
+    #[inline(always)]
+    fn of(self, _: u8, _: u8) -> u16 {
+        0
+    }
+
+    #[inline(always)]
+    fn waits(self, _: u8, _: u64) -> bool {
+        false
+    }
+
+    // No two letters wait.
+
+    #[inline(always)]
+    fn in_s7(self, engine: Engine, _: u8, _: u8, _: u64) -> Effect {
+        (NOTHING, engine.resting)
+    }
+
+    #[inline(always)]
+    fn in_s8(self, engine: Engine, _: u8, _: u8, _: u64) -> Effect {
+        (NOTHING, engine.resting)
+    }
+}
+
 /// What a log's list lends: one number a pair (key, key, character from the top), T_s and N.
 #[derive(Clone, Copy)]
 pub struct Pairs<'a> {
@@ -89,26 +131,34 @@ pub struct Pairs<'a> {
 
 /// So many pairs may be lent.
 pub const MOST_PAIRS: usize = 64;
-pub const NO_PAIRS: Pairs<'static> = Pairs { list: &[], ts: 50, n: 1 };
 /// How long a list record is without its pairs: tag, length, T_s, N.
 pub const LIST_HEAD: usize = 6;
 
-impl Pairs<'_> {
-    /// The character of two keys; 0 if they are no pair.
+impl Lent for Pairs<'_> {
+    const ANY: bool = true;
+
     #[inline(always)]
-    pub fn of(self, a: u8, b: u8) -> u16 {
-        if self.list.is_empty() {
-            return 0;
-        }
+    fn of(self, a: u8, b: u8) -> u16 {
         find(self.list, a, b)
     }
 
-    /// Whether a key waits still, since it is in some pair.
     #[inline(always)]
     fn waits(self, key: u8, since: u64) -> bool {
-        !self.list.is_empty() && since * self.n < self.ts * (100 - self.n) && has(self.list, key)
+        since * self.n < self.ts * (100 - self.n) && has(self.list, key)
     }
 
+    #[inline(never)]
+    fn in_s7(self, engine: Engine, kind: u8, new: u8, now: u64) -> Effect {
+        engine.in_s7(self, kind, new, now)
+    }
+
+    #[inline(never)]
+    fn in_s8(self, engine: Engine, kind: u8, new: u8, now: u64) -> Effect {
+        engine.in_s8(self, kind, new, now)
+    }
+}
+
+impl Pairs<'_> {
     /// Whether it is accepted.
     pub fn is_good(self) -> bool {
         let good = |number: &u32| {
@@ -172,7 +222,7 @@ pub fn accepted_list(run: &[u32; MOST_PAIRS], count: u64, ts: u16, n: u8) -> Res
 }
 
 /// The words of one step: 0 where there is none, and no second without a first.
-struct Words(u16, u16);
+pub struct Words(u16, u16);
 
 const NOTHING: Words = Words(0, 0);
 
@@ -206,20 +256,19 @@ pub struct Engine {
     resting: Resting,
 }
 
+/// Of two letters the second takes the thumb's place, and `o` is when it was pressed.
 #[derive(Clone, Copy)]
-struct Resting {
+pub struct Resting {
     state: u8,
     key: u8,
     thumb: u8,
-    second: u8,
     m: u64,
-    k: u64,
     o: u64,
     r: u64,
 }
 
 /// What an event commits, and what rests after it.
-type Effect = (Words, Resting);
+pub type Effect = (Words, Resting);
 
 impl Engine {
     /// None if the settings are out of range.
@@ -239,8 +288,8 @@ impl Engine {
     #[inline(always)]
     pub fn of(machine: &Flat) -> Engine {
         let Flat { last, m, k, o, r, held, second, t, j, l, solo, state, key, thumb } = *machine;
-        let [m, k, o, r] = [m, k, o, r].map(|stamp| stamp.ms);
-        let resting = Resting { state, key, thumb, second: second as u8, m, k, o, r };
+        let (thumb, o) = if state < 7 { (thumb, o) } else { (second as u8, k) };
+        let resting = Resting { state, key, thumb, m: m.ms, o: o.ms, r: r.ms };
         let (t, j, l) = (t.into(), j.into(), l.into());
         Engine { t, j, l, solo: solo == 1, last: last.ms, held, resting }
     }
@@ -248,10 +297,10 @@ impl Engine {
     /// The numbers after some events, given those before.
     #[inline(always)]
     pub fn numbers(&self, before: &Flat) -> Flat {
-        let Resting { state, key, thumb, second, m, k, o, r } = self.resting;
+        let Resting { state, key, thumb, m, o, r } = self.resting;
         let (key, m) = if matches!(state, 1 | 3) { (0, 0) } else { (key, m) };
+        let (second, k) = if state < 7 { (0, 0) } else { (thumb.into(), o) };
         let (thumb, o) = if matches!(state, 3..=6) { (thumb, o) } else { (0, 0) };
-        let (second, k) = if state < 7 { (0, 0) } else { (second.into(), k) };
         let r = if matches!(state, 6 | 8) { r } else { 0 };
         let ([last, m, k, o, r], held) = ([self.last, m, k, o, r].map(at), self.held);
         Flat { last, m, k, o, r, held, second, state, key, thumb, ..*before }
@@ -260,7 +309,7 @@ impl Engine {
     /// Takes an event and writes its words. How many bytes; nothing is done where it is
     /// refused.
     #[inline(always)]
-    pub fn put(&mut self, pairs: Pairs, event: Event, out: &mut [u8]) -> Result<usize, u32> {
+    pub fn put(&mut self, lent: impl Lent, event: Event, out: &mut [u8]) -> Result<usize, u32> {
         let Event { kind, key, stamp } = event;
         if kind > 6 || key >= KEYS_OF_KIND[usize::from(kind)] {
             return Err(3);
@@ -272,7 +321,7 @@ impl Engine {
             return Err(5);
         }
         let (kind, held) = self.hold(kind, key)?;
-        let (words, resting) = self.take(pairs, kind, key, stamp);
+        let (words, resting) = self.take(lent, kind, key, stamp);
         let bytes = words.write(out).ok_or(8u32)?;
         self.resting = resting;
         self.last = stamp;
@@ -298,31 +347,29 @@ impl Engine {
     }
 
     #[inline(always)]
-    fn take(&self, pairs: Pairs, kind: u8, k: u8, now: u64) -> Effect {
+    fn take<L: Lent>(&self, lent: L, kind: u8, k: u8, now: u64) -> Effect {
         match self.resting.state {
             1 => (NOTHING, self.resting.in_s1(kind, k, now)),
-            2 => self.in_s2(pairs, kind, k, now),
+            2 => self.in_s2(lent, kind, k, now),
             3 => self.in_s3(kind, k, now),
             4 => self.in_s4(kind, k, now),
             5 => self.in_s5(kind, k, now),
-            6 => self.in_s6(kind, k, now),
-            7 => self.in_s7(pairs, kind, k, now),
-            _ => self.in_s8(pairs, kind, k, now),
+            7 if L::ANY => lent.in_s7(*self, kind, k, now),
+            8 if L::ANY => lent.in_s8(*self, kind, k, now),
+            _ => self.in_s6(kind, k, now),
         }
     }
 
     // What is due comes first; it leaves S1, where no event commits.
 
     #[inline(always)]
-    fn in_s2(&self, pairs: Pairs, kind: u8, k: u8, now: u64) -> Effect {
+    fn in_s2(&self, lent: impl Lent, kind: u8, k: u8, now: u64) -> Effect {
         let same @ Resting { key, m, .. } = self.resting;
-        if (now - m) * self.j >= self.t * (100 - self.j) && !pairs.waits(key, now - m) {
+        if (now - m) * self.j >= self.t * (100 - self.j) && !lent.waits(key, now - m) {
             return (plain(key), same.in_s1(kind, k, now));
         }
         match kind {
-            1 if pairs.of(key, k) != 0 => {
-                (NOTHING, Resting { state: 7, second: k, k: now, ..same })
-            }
+            1 if lent.of(key, k) != 0 => (NOTHING, Resting { state: 7, thumb: k, o: now, ..same }),
             1 => (plain(key), same.lone_key(k, now)),
             2 if k == key => (plain(key), same.at_rest()),
             3 => (NOTHING, Resting { state: 4, thumb: k, o: now, ..same }),
@@ -409,9 +456,8 @@ impl Engine {
 
     // Two letters wait, which only a log with pairs comes to.
 
-    #[inline(never)]
-    fn in_s7(&self, pairs: Pairs, kind: u8, new: u8, now: u64) -> Effect {
-        let same @ Resting { key, m, second, k, .. } = self.resting;
+    fn in_s7(self, pairs: Pairs, kind: u8, new: u8, now: u64) -> Effect {
+        let same @ Resting { key, m, thumb: second, o: k, .. } = self.resting;
         let pair = Words(pairs.of(key, second), 0);
         if now - k >= pairs.ts {
             return (pair, same.in_s1(kind, new, now));
@@ -427,9 +473,8 @@ impl Engine {
         }
     }
 
-    #[inline(never)]
-    fn in_s8(&self, pairs: Pairs, kind: u8, new: u8, now: u64) -> Effect {
-        let same @ Resting { key, second, k, r, .. } = self.resting;
+    fn in_s8(self, pairs: Pairs, kind: u8, new: u8, now: u64) -> Effect {
+        let same @ Resting { key, thumb: second, o: k, r, .. } = self.resting;
         if (now - r) * pairs.n >= (r - k) * (100 - pairs.n) {
             return (two(key, second), same.in_s1(kind, new, now));
         }
@@ -446,8 +491,8 @@ impl Engine {
 
     /// A third key, letter or thumb.
     #[inline(always)]
-    fn third(&self, pairs: Pairs, kind: u8, new: u8, now: u64) -> Effect {
-        let same @ Resting { key, m, second, k, .. } = self.resting;
+    fn third(self, pairs: Pairs, kind: u8, new: u8, now: u64) -> Effect {
+        let same @ Resting { key, m, thumb: second, o: k, .. } = self.resting;
         if k - m < now - k {
             return (Words(pairs.of(key, second), 0), same.in_s1(kind, new, now));
         }
@@ -455,7 +500,7 @@ impl Engine {
         match kind {
             3 => (plain(key), Resting { state: 4, thumb: new, o: now, ..left }),
             _ if pairs.of(second, new) != 0 => {
-                (plain(key), Resting { state: 7, second: new, k: now, ..left })
+                (plain(key), Resting { state: 7, thumb: new, o: now, ..left })
             }
             _ => (two(key, second), same.lone_key(new, now)),
         }
