@@ -36,17 +36,22 @@ typedef host_time given;
 #error "GIVEN is STAMP, NUMBER or OTHER"
 #endif
 
+#if WANTED == STEP || WANTED == DISTANCE || (WANTED == BRACES && defined(__cplusplus))
+/* A list of no pairs, lent with every call. */
+static const uint32_t list[1] = {0};
+#endif
+
 #if WANTED == STEP
 trabeculon_stepped tick(trabeculon_machine machine, given now);
 
 trabeculon_stepped tick(trabeculon_machine machine, given now) {
-    return trabeculon_step(machine, TRABECULON_TICK, 0, now);
+    return trabeculon_step(machine, list, 0, 50, 1, TRABECULON_TICK, 0, now);
 }
 #elif WANTED == DISTANCE
 trabeculon_asked ask(trabeculon_machine machine, given now);
 
 trabeculon_asked ask(trabeculon_machine machine, given now) {
-    return trabeculon_distance(machine, now);
+    return trabeculon_distance(machine, list, 0, 50, 1, now);
 }
 #elif WANTED == LAST
 trabeculon_machine moved(trabeculon_machine machine, given now);
@@ -59,9 +64,9 @@ trabeculon_machine moved(trabeculon_machine machine, given now) {
 trabeculon_machine made(given now);
 
 trabeculon_machine made(given now) {
-    trabeculon_machine machine = {now, now, now, now, 0, 100, 50, 50, 0, 1, 0, 0};
+    trabeculon_machine machine = {now, now, now, now, now, 0, 0, 100, 50, 50, 0, 1, 0, 0};
 #ifdef __cplusplus
-    machine = trabeculon_step(machine, TRABECULON_TICK, 0, {now}).machine;
+    machine = trabeculon_step(machine, list, 0, 50, 1, TRABECULON_TICK, 0, {now}).machine;
 #endif
     return machine;
 }

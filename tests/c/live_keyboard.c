@@ -1,9 +1,9 @@
 /*
  * Drives a live keyboard through include/trabeculon.h as a C host would: document
- * 01's P1, P4 and P9, request 4/12's keystrokes (slow) and a letter that is held
- * (7/12) event by event, with a screen on which a backspace takes the last sign back,
- * and the distance to the deadline after each event. Then every refusal, and keys
- * that are held. Checks every number of every answer. Prints what was sent, a
+ * 01's P1, P4 and P9, request 4/12's keystrokes (slow), a letter that is held (7/12)
+ * and two letters as a chord (9/12) event by event, with a screen on which a backspace
+ * takes the last sign back, and the distance to the deadline after each event. Then
+ * every refusal, keys that are held, and lists that are refused. Checks every number of every answer. Prints what was sent, a
  * backspace as <-, and the screen after each event, and one line per check; exits 1
  * if one failed.
  */
@@ -19,6 +19,9 @@
 /* Words: ka (key 21) and ga (key 21 with the right thumb), the right mark. */
 #define KA 0x304B
 #define GA 0x304C
+/* Sa (key 24), and what ka and sa give together by the list. */
+#define SA 0x3055
+#define TOGETHER 0x308E
 #define RIGHT_MARK TRABECULON_RIGHT_MARK
 /* Stands among the sent signs for a backspace; no word has this value. */
 #define BACKSPACE 0xFFFF
@@ -38,22 +41,24 @@ enum {
     S3 = TRABECULON_S3,
     S4 = TRABECULON_S4,
     S5 = TRABECULON_S5,
-    S6 = TRABECULON_S6
+    S6 = TRABECULON_S6,
+    S7 = TRABECULON_S7,
+    S8 = TRABECULON_S8
 };
 
-#if TRABECULON_VERSION != 2
-#error "this host is for version 2"
+#if TRABECULON_VERSION != 3
+#error "this host is for version 3"
 #endif
 
 /* A held set with one key in it. */
-#define HELD(key) (UINT64_C(1) << (key))
+#define HELD(key) (UINT32_C(1) << (key))
 
 /* The header checks the sizes. */
-_Static_assert(sizeof(trabeculon_machine) == 6 * 8, "a machine has no padding");
-_Static_assert(offsetof(trabeculon_machine, held) == 32, "it lies behind the stamps");
-_Static_assert(offsetof(trabeculon_machine, thumb) == 47, "none before the end");
-_Static_assert(offsetof(trabeculon_opened, number) == 48, "an opened machine has no padding");
-_Static_assert(offsetof(trabeculon_stepped, sent_third) == 66, "padding at its end only");
+_Static_assert(sizeof(trabeculon_machine) == 7 * 8, "a machine has no padding");
+_Static_assert(offsetof(trabeculon_machine, held) == 40, "it lies behind the stamps");
+_Static_assert(offsetof(trabeculon_machine, thumb) == 55, "none before the end");
+_Static_assert(offsetof(trabeculon_opened, number) == 56, "an opened machine has no padding");
+_Static_assert(offsetof(trabeculon_stepped, sent_third) == 74, "padding at its end only");
 
 static int failures = 0;
 
@@ -66,6 +71,34 @@ static void report(const char *name, const char *what, int ok) {
 
 static int same_machine(trabeculon_machine one, trabeculon_machine other) {
     return memcmp(&one, &other, sizeof one) == 0;
+}
+
+/* ---- What the desk lends with every call ---- */
+
+/* One number a pair: key, key, character from the top. */
+#define PAIR(a, b, c) (UINT32_C(1) * (a) << 24 | UINT32_C(1) * (b) << 16 | (c))
+
+typedef struct {
+    const uint32_t *pairs;
+    size_t length;
+    uint16_t ts;
+    uint8_t n;
+} desk;
+
+static const uint32_t KA_SA[] = {PAIR(21, 24, TOGETHER)};
+static const desk NO_PAIRS = {KA_SA, 0, 50, 1};
+static const desk ONE_PAIR = {KA_SA, 1, 100, 50};
+
+/* The desk of the runs and checks. */
+static desk lent = {KA_SA, 0, 50, 1};
+
+static trabeculon_stepped step(trabeculon_machine machine, uint8_t kind, uint8_t key,
+                               trabeculon_stamp stamp) {
+    return trabeculon_step(machine, lent.pairs, lent.length, lent.ts, lent.n, kind, key, stamp);
+}
+
+static trabeculon_asked distance(trabeculon_machine machine, trabeculon_stamp stamp) {
+    return trabeculon_distance(machine, lent.pairs, lent.length, lent.ts, lent.n, stamp);
 }
 
 /* ---- The host's screen ---- */
@@ -114,7 +147,7 @@ typedef struct {
 
 static void show(host *h, trabeculon_stepped s) {
     uint16_t signs[3] = {s.sent_first, s.sent_second, s.sent_third};
-    if (s.backspace == 1) {
+    for (unsigned i = 0; i < s.backspaces; i++) {
         add(&h->sent, BACKSPACE);
         if (h->screen.length > 0) {
             h->screen.length--;
@@ -137,7 +170,7 @@ typedef struct {
     uint64_t stamp;
     uint32_t items;
     uint16_t words[2];
-    uint16_t backspace;
+    uint16_t backspaces;
     uint16_t sent[3];
     trabeculon_machine machine; /* without the settings, and last is the stamp */
     int64_t distance;           /* asked at the event's stamp */
@@ -232,6 +265,27 @@ static const line REPEATS[] = {
      {.state = S1}, NO_DEADLINE},
 };
 
+/* Two letters as a chord; the second time one is let go too soon, and they come apart. */
+static const line CHORD[] = {
+    {"pair, 21@0", CHARACTER_DOWN, 21, 0, 0, {0, 0}, 0, {KA, 0, 0},
+     {.state = S2, .key = 21, .held = HELD(21), .m = {0}}, 100},
+    {"pair, 24@30", CHARACTER_DOWN, 24, 30, 0, {0, 0}, 0, {SA, 0, 0},
+     {.state = S7, .key = 21, .held = HELD(21) | HELD(24), .m = {0}, .second = 24, .k = {30}}, 100},
+    {"pair, 21 up@60", CHARACTER_UP, 21, 60, 1, {TOGETHER, 0}, 2, {TOGETHER, 0, 0},
+     {.state = S1, .held = HELD(24)}, NO_DEADLINE},
+    {"pair, 24 up@70", CHARACTER_UP, 24, 70, 0, {0, 0}, 0, {0, 0, 0}, {.state = S1}, NO_DEADLINE},
+    {"pair, 24@100", CHARACTER_DOWN, 24, 100, 0, {0, 0}, 0, {SA, 0, 0},
+     {.state = S2, .key = 24, .held = HELD(24), .m = {100}}, 100},
+    {"pair, 21@130", CHARACTER_DOWN, 21, 130, 0, {0, 0}, 0, {KA, 0, 0},
+     {.state = S7, .key = 24, .held = HELD(21) | HELD(24), .m = {100}, .second = 21, .k = {130}},
+     100},
+    {"pair, 24 up@159", CHARACTER_UP, 24, 159, 0, {0, 0}, 0, {0, 0, 0},
+     {.state = S8, .key = 24, .held = HELD(21), .m = {100}, .second = 21, .k = {130}, .r = {159}},
+     29},
+    {"pair, 21 up@188", CHARACTER_UP, 21, 188, 2, {SA, KA}, 0, {0, 0, 0},
+     {.state = S1}, NO_DEADLINE},
+};
+
 /* A number of the keyboard's clock comes in. */
 static trabeculon_stamp at(uint64_t ms) {
     trabeculon_stamp stamp = {ms};
@@ -252,7 +306,7 @@ static trabeculon_machine fresh(uint16_t t, uint8_t solo) {
 
 static void check_distance(const char *name, trabeculon_machine machine, uint64_t stamp,
                            int64_t want) {
-    trabeculon_asked got = trabeculon_distance(machine, at(stamp));
+    trabeculon_asked got = distance(machine, at(stamp));
     if (want == NO_DEADLINE) {
         report(name, "no deadline", got.number == 0 && got.deadline == 0 && got.milliseconds == 0);
     } else {
@@ -265,10 +319,10 @@ static void check_line(host *h, const line *want, uint16_t t, uint8_t solo) {
     trabeculon_machine after = with_settings(want->machine, t, solo);
     after.last = at(want->stamp);
 
-    trabeculon_stepped got = trabeculon_step(h->machine, want->kind, want->key, after.last);
+    trabeculon_stepped got = step(h->machine, want->kind, want->key, after.last);
     h->machine = got.machine;
     show(h, got);
-    trabeculon_asked asked = trabeculon_distance(h->machine, after.last);
+    trabeculon_asked asked = distance(h->machine, after.last);
 
     printf("%-15s", want->name);
     print_run(" sent: ", &h->sent);
@@ -282,7 +336,7 @@ static void check_line(host *h, const line *want, uint16_t t, uint8_t solo) {
            got.items == want->items && got.first == want->words[0]
                && got.second == want->words[1]);
     report(want->name, "sendings",
-           got.backspace == want->backspace && got.sent_first == want->sent[0]
+           got.backspaces == want->backspaces && got.sent_first == want->sent[0]
                && got.sent_second == want->sent[1] && got.sent_third == want->sent[2]);
     report(want->name, "machine", same_machine(got.machine, after));
     check_distance(want->name, h->machine, want->stamp, want->distance);
@@ -315,6 +369,11 @@ static void check_runs(void) {
               (uint16_t[]){KA, RIGHT_MARK, 0}, (uint16_t[]){KA, RIGHT_MARK, 0});
     check_run("held", REPEATS, sizeof REPEATS / sizeof REPEATS[0], 100, 0,
               (uint16_t[]){KA, KA, 0}, (uint16_t[]){KA, KA, 0});
+    lent = ONE_PAIR;
+    check_run("pair", CHORD, sizeof CHORD / sizeof CHORD[0], 100, 0,
+              (uint16_t[]){KA, SA, BACKSPACE, BACKSPACE, TOGETHER, SA, KA, 0},
+              (uint16_t[]){TOGETHER, SA, KA, 0});
+    lent = NO_PAIRS;
 }
 
 /* ---- Opening ---- */
@@ -350,17 +409,17 @@ static void check_opening(void) {
 /* A refused step commits and sends nothing and hands the machine back as given. */
 static void check_refused(const char *name, trabeculon_machine machine, uint8_t kind,
                           uint8_t key, uint64_t stamp, uint32_t number) {
-    trabeculon_stepped got = trabeculon_step(machine, kind, key, at(stamp));
+    trabeculon_stepped got = step(machine, kind, key, at(stamp));
     report(name, "number", got.number == number);
     report(name, "nothing committed or sent",
-           got.items == 0 && got.first == 0 && got.second == 0 && got.backspace == 0
+           got.items == 0 && got.first == 0 && got.second == 0 && got.backspaces == 0
                && got.sent_first == 0 && got.sent_second == 0 && got.sent_third == 0);
     report(name, "machine as given", same_machine(got.machine, machine));
 }
 
 static void check_not_asked(const char *name, trabeculon_machine machine, uint64_t stamp,
                             uint32_t number) {
-    trabeculon_asked got = trabeculon_distance(machine, at(stamp));
+    trabeculon_asked got = distance(machine, at(stamp));
     report(name, "distance refused",
            got.number == number && got.deadline == 0 && got.milliseconds == 0);
 }
@@ -385,8 +444,8 @@ static void check_states(void) {
     check_no_machine("what a refused opening gives", trabeculon_open(49, 50, 50, 0).machine);
     m.state = 0;
     check_no_machine("state 0", m);
-    m.state = 7;
-    check_no_machine("state 7", m);
+    m.state = 9;
+    check_no_machine("state 9", m);
     m = WAITING;
     m.thumb = RIGHT;
     check_no_machine("a thumb in state 2", m);
@@ -422,34 +481,69 @@ static void check_states(void) {
     check_no_machine("out of order", m);
 }
 
+/* Two letters wait that are no pair of the list, and a list that is no list comes first. */
+static void check_lists(void) {
+    static const uint32_t twice[] = {PAIR(21, 24, TOGETHER), PAIR(24, 21, KA)};
+    static const uint32_t bad[] = {
+        PAIR(21, 21, KA), PAIR(31, 0, KA), PAIR(0, 31, KA), PAIR(0, 1, 0x1F), PAIR(0, 1, 0xD800),
+        PAIR(0, 1, 0xDFFF),
+    };
+    trabeculon_machine two = WAITING, none = WAITING;
+    two.state = S7;
+    two.key = 21;
+    two.second = 24;
+    two.k = two.m;
+    none.state = 9;
+    lent = ONE_PAIR;
+    check_distance("a pair waits", two, 1000, 100);
+    check_refused("a pair waits, kind 7", two, 7, 0, 1000, 3);
+    lent = NO_PAIRS;
+    check_no_machine("two wait, no pair", two);
+    desk desks[] = {
+        {KA_SA, 1, 49, 50}, {KA_SA, 1, 1001, 50}, {KA_SA, 1, 50, 0}, {KA_SA, 1, 50, 100},
+        {KA_SA, 0, 49, 50}, {KA_SA, 0, 50, 0}, {twice, 2, 100, 50},
+    };
+    for (size_t i = 0; i < sizeof desks / sizeof desks[0]; i++) {
+        lent = desks[i];
+        check_refused("a list that is refused", two, TICK, 0, 1000, 12);
+        check_refused("and no machine", none, 9, 99, 0, 12);
+        check_not_asked("asked with it", none, LARGEST + 1, 12);
+    }
+    for (size_t i = 0; i < sizeof bad / sizeof bad[0]; i++) {
+        desk one = {&bad[i], 1, 100, 50};
+        lent = one;
+        check_refused("a pair that is refused", WAITING, TICK, 0, 1000, 12);
+    }
+    lent = NO_PAIRS;
+}
+
 /* Bits 31 and up are 0, and at most 6 are 1. */
 static void check_held_sets(void) {
-    static const uint64_t good[] = {0, HELD(0), HELD(30), 0x3F, 0x7E000000};
-    static const uint64_t bad[] = {
+    static const uint32_t good[] = {0, HELD(0), HELD(30), 0x3F, 0x7E000000};
+    static const uint32_t bad[] = {
         HELD(31), HELD(21) | HELD(31), 0xFC000000, /* bit 31 */
-        0x7F, 0x7F000000, 0x7FFFFFFF,              /* more than six */
-        HELD(32), HELD(21) | HELD(32), HELD(63), UINT64_MAX << 32, UINT64_MAX,
+        0x7F, 0x7F000000, 0x7FFFFFFF, UINT32_MAX,  /* more than six */
     };
     char name[40];
     for (size_t i = 0; i < sizeof good / sizeof good[0]; i++) {
         trabeculon_machine m = WAITING;
         m.held = good[i];
-        snprintf(name, sizeof name, "held %" PRIX64, m.held);
+        snprintf(name, sizeof name, "held %" PRIX32, m.held);
         check_distance(name, m, 1000, 100);
-        trabeculon_stepped got = trabeculon_step(m, TICK, 0, at(1001));
+        trabeculon_stepped got = step(m, TICK, 0, at(1001));
         m.last = at(1001);
         report(name, "accepted", got.number == 0 && same_machine(got.machine, m));
     }
     for (size_t i = 0; i < sizeof bad / sizeof bad[0]; i++) {
         trabeculon_machine m = WAITING;
         m.held = bad[i];
-        snprintf(name, sizeof name, "held %" PRIX64, m.held);
+        snprintf(name, sizeof name, "held %" PRIX32, m.held);
         check_no_machine(name, m);
     }
 }
 
 static void check_accepted(const char *name, uint8_t kind, uint8_t key, uint64_t stamp) {
-    trabeculon_stepped got = trabeculon_step(WAITING, kind, key, at(stamp));
+    trabeculon_stepped got = step(WAITING, kind, key, at(stamp));
     report(name, "accepted", got.number == 0 && got.machine.last.ms == stamp);
 }
 
@@ -498,12 +592,12 @@ static void check_distances(void) {
 /* What a tick with this stamp gives, refusals too. */
 static void check_as_tick(const char *name, trabeculon_machine machine, uint8_t kind, uint8_t key,
                           uint64_t stamp) {
-    trabeculon_stepped got = trabeculon_step(machine, kind, key, at(stamp));
-    trabeculon_stepped tick = trabeculon_step(machine, TICK, 0, at(stamp));
+    trabeculon_stepped got = step(machine, kind, key, at(stamp));
+    trabeculon_stepped tick = step(machine, TICK, 0, at(stamp));
     report(name, "as a tick",
            same_machine(got.machine, tick.machine) && got.number == tick.number
                && got.items == tick.items && got.first == tick.first && got.second == tick.second
-               && got.backspace == tick.backspace && got.sent_first == tick.sent_first
+               && got.backspaces == tick.backspaces && got.sent_first == tick.sent_first
                && got.sent_second == tick.sent_second && got.sent_third == tick.sent_third);
 }
 
@@ -518,7 +612,7 @@ static void check_as_ticks(const char *name, trabeculon_machine machine, uint8_t
 }
 
 static trabeculon_machine pressed(trabeculon_machine machine, uint8_t key, uint64_t stamp) {
-    trabeculon_stepped got = trabeculon_step(machine, CHARACTER_DOWN, key, at(stamp));
+    trabeculon_stepped got = step(machine, CHARACTER_DOWN, key, at(stamp));
     report("a finger goes down", "accepted and held",
            got.number == TRABECULON_ACCEPTED && got.machine.held == (machine.held | HELD(key)));
     return got.machine;
@@ -550,10 +644,10 @@ static void check_seventh(trabeculon_machine six) {
 
 /* A function key lets go of none; an up of one makes room. */
 static void check_let_go(trabeculon_machine six) {
-    trabeculon_stepped got = trabeculon_step(six, FUNCTION, 0, at(1010));
+    trabeculon_stepped got = step(six, FUNCTION, 0, at(1010));
     report("function", "none let go", got.number == 0 && got.machine.held == six.held);
     check_refused("a seventh key after a function key", got.machine, CHARACTER_DOWN, 21, 1010, 11);
-    got = trabeculon_step(six, CHARACTER_UP, 0, at(1010));
+    got = step(six, CHARACTER_UP, 0, at(1010));
     report("an earlier key goes up", "let go, and 30 still waits",
            got.number == 0 && got.items == 0 && got.machine.held == (0x1E | HELD(30))
                && got.machine.state == S2);
@@ -565,7 +659,7 @@ static void check_not_held(void) {
     trabeculon_machine m = WAITING;
     m.held = 0;
     check_as_ticks("an up of a waiting key not held", m, CHARACTER_UP, 21);
-    trabeculon_stepped got = trabeculon_step(m, CHARACTER_DOWN, 21, at(1010));
+    trabeculon_stepped got = step(m, CHARACTER_DOWN, 21, at(1010));
     report("a down of a waiting key not held", "a press",
            got.number == 0 && got.items == 1 && got.first == KA && got.sent_first == KA
                && got.machine.m.ms == 1010 && got.machine.held == HELD(21));
@@ -584,6 +678,7 @@ int main(void) {
     check_runs();
     check_opening();
     check_states();
+    check_lists();
     check_held_sets();
     check_events();
     check_held();

@@ -43,6 +43,10 @@ static uint8_t j, l, solo;
 static trabeculon_machine machine;
 static uint8_t kind, key;
 static trabeculon_stamp stamp;
+static uint32_t pairs[64];
+static size_t pairs_len;
+static uint16_t ts;
+static uint8_t n;
 static uint16_t line[LINE];
 static uint8_t log_bytes[SETTINGS_LEN + 65 * LINE];
 static size_t log_len;
@@ -65,6 +69,21 @@ static void random_settings(void) {
     solo = below(2);
 }
 
+/* Of every length, its pairs among few keys or among many; now and then refused. */
+static void random_list(void) {
+    uint8_t first = 0, second = 1;
+    ts = 50 + below(951);
+    n = 1 + below(below(20) ? 99 : 100);
+    pairs_len = below(2) ? below(8) : below(65);
+    for (size_t i = 0; i < pairs_len; i++) {
+        pairs[i] = (uint32_t)first << 24 | (uint32_t)second << 16 | (0x3041 + below(0x53));
+        if (++first == second) {
+            first = 0;
+            second++;
+        }
+    }
+}
+
 static void random_event(void) {
     kind = 1 + below(6);
     key = kind < 3 ? below(7) : kind < 5 ? below(2) : 0;
@@ -78,6 +97,17 @@ static void random_log(void) {
     const uint8_t settings[SETTINGS_LEN] = {1, 0, 5, t >> 8, t & 255, j, l, solo};
     memcpy(log_bytes, settings, SETTINGS_LEN);
     log_len = SETTINGS_LEN;
+    if (below(2)) {
+        const size_t length = 3 + 4 * pairs_len;
+        const uint8_t list[6] = {3, length >> 8, length & 255, ts >> 8, ts & 255, n};
+        memcpy(log_bytes + log_len, list, sizeof list);
+        log_len += sizeof list;
+        for (size_t i = 0; i < pairs_len; i++) {
+            for (int place = 0; place < 4; place++) {
+                log_bytes[log_len++] = pairs[i] >> 8 * (3 - place);
+            }
+        }
+    }
     stamp.ms = 0;
     for (int i = 0; i < EVENTS; i++) {
         random_event();
@@ -126,8 +156,12 @@ static void call_write_drill(void) {
     drill = trabeculon_write_drill(t, j, l, solo, line, LINE, log_bytes, sizeof log_bytes);
 }
 static void call_open(void) { opened = trabeculon_open(t, j, l, solo); }
-static void call_step(void) { stepped = trabeculon_step(machine, kind, key, stamp); }
-static void call_distance(void) { asked = trabeculon_distance(machine, stamp); }
+static void call_step(void) {
+    stepped = trabeculon_step(machine, pairs, pairs_len, ts, n, kind, key, stamp);
+}
+static void call_distance(void) {
+    asked = trabeculon_distance(machine, pairs, pairs_len, ts, n, stamp);
+}
 static void call_reader_fresh(void) { reader = trabeculon_reader_fresh(); }
 static void call_reader_piece(void) {
     piece_read = trabeculon_reader_piece(reader, piece, piece_len, out, sizeof out);
@@ -162,6 +196,7 @@ int main(void) {
     size_t refused = 0, commits = 0;
     for (int round = 0; round < ROUNDS; round++) {
         random_settings();
+        random_list();
         deepest(&open, call_open);
         machine = opened.machine;
         stamp.ms = 0;
