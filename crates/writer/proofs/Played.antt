@@ -11,8 +11,9 @@ use lib.Count.{onesIn}
 use borrow.Author.Tests.{lt-ltb, le-leb, lt-leb, eq-eqb}
 use Rattle.rules.specs.Numbers.{keys, largest-stamp, in-range, up, A, FJ}
 use Rattle.rules.specs.Held.{is-held, hold, release, how-many, held-formed}
+use Rattle.rules.specs.Pairs.{no-pairs, in-some-pair, alone}
 use Rattle.rules.specs.States.{well-formed}
-use Rattle.rules.specs.OneEvent.{_leaving_, nothing, plain, chord, same-key, settle, one-event}
+use Rattle.rules.specs.OneEvent.{_leaving_, nothing, plain, chord, same-key, settle-in, settle, one-event}
 use Rattle.rules.specs.GivenBack.{input, is-new, too-many, Answer, acceptance, step}
 use Rattle.rules.specs.Sequences.{after, along, items-in}
 use Rattle.rules.specs.declared.Stamp.{Stamp}
@@ -33,6 +34,7 @@ use Rattle.rules.proofs.Tests.{range-bounds}
 use Rattle.rules.proofs.Bounds.{A-positive}
 use Rattle.rules.proofs.Held.{held-facts, formed-test, formed-hold, none-held, empty-formed}
 use Rattle.rules.proofs.Steps.{step-accepted}
+use Rattle.keylog.proofs.Lent.{no-pairs-good}
 use Rattle.writer.specs.Drills.{thumb-key, key-down, key-up, thumb-down, thumb-up, tick, strokes-on}
 use Rattle.writer.proofs.Read.{AllAccepted, no-more, and-more}
 
@@ -64,7 +66,7 @@ tick-input = refl
 pub data Chain : Machine → List Event → Machine → List Item → Type 0 where
   end : {m : Machine} → Chain m [] m []
   go : {m : Machine} {e : Event} {es : List Event} {a : Answer} {left : Machine} {items : List Item} → e .stamp .0 < 256 ^ 8
-      → step m e ≡ a → a .number ≡ 0 → Chain (a .machine) es left items → Chain m (e ∷ es) left (a .items ++ items)
+      → step no-pairs m e ≡ a → a .number ≡ 0 → Chain (a .machine) es left items → Chain m (e ∷ es) left (a .items ++ items)
 
 pub chain-accepted : {m left : Machine} {es : List Event} {items : List Item} → Chain m es left items → AllAccepted m es
 chain-accepted end = no-more
@@ -72,14 +74,15 @@ chain-accepted (go {es = es} small e z c) =
     and-more small (ap (λ (a : Answer). a .number) e ∙ z)
     (subst (λ (a : Answer). AllAccepted (a .machine) es) (sym e) (chain-accepted c))
 
-pub chain-leaves : {m left : Machine} {es : List Event} {items : List Item} → Chain m es left items → after m es ≡ left
+pub chain-leaves : {m left : Machine} {es : List Event} {items : List Item} → Chain m es left items → after no-pairs m es ≡ left
 chain-leaves end = refl
-chain-leaves (go {es = es} small e z c) = ap (λ (a : Answer). after (a .machine) es) e ∙ chain-leaves c
+chain-leaves (go {es = es} small e z c) = ap (λ (a : Answer). after no-pairs (a .machine) es) e ∙ chain-leaves c
 
-pub chain-commits : {m left : Machine} {es : List Event} {items : List Item} → Chain m es left items → along items-in m es ≡ items
+pub chain-commits : {m left : Machine} {es : List Event} {items : List Item} → Chain m es left items
+    → along no-pairs items-in m es ≡ items
 chain-commits end = refl
 chain-commits (go {es = es} {a = a} small e z c) =
-    ap (λ (b : Answer). b .items ++ along items-in (b .machine) es) e ∙ ap (λ (l : List Item). a .items ++ l) (chain-commits c)
+    ap (λ (b : Answer). b .items ++ along no-pairs items-in (b .machine) es) e ∙ ap (λ (l : List Item). a .items ++ l) (chain-commits c)
 
 -- one after the other
 pub chain-append : {m n left : Machine} {es fs : List Event} {items more : List Item} → Chain m es n items → Chain n fs left more
@@ -113,21 +116,21 @@ module _ (s : Settings) (r : in-range s ≡ true) (t : Stamp) (low : t .0 ≤ la
   abbrev holding : Resting → Machine
   holding x = machine-at s x t one
 
-  free-well-formed : (last : Stamp) → last .0 ≤ t .0 → well-formed (free last) ≡ true
+  free-well-formed : (last : Stamp) → last .0 ≤ t .0 → well-formed no-pairs (free last) ≡ true
   unfolding well-formed
-  free-well-formed last h = rw (r, le-leb (last .0) largest-stamp (omega arith)) (formed-test 0 empty-formed)
+  free-well-formed last h = rw (r, le-leb (last .0) largest-stamp (omega arith), formed-test 0 empty-formed)
 
-  S1-well-formed : well-formed (holding S1) ≡ true
+  S1-well-formed : well-formed no-pairs (holding S1) ≡ true
   unfolding well-formed
-  S1-well-formed = rw (r, le-leb (t .0) largest-stamp low) one-formed
+  S1-well-formed = rw (r, le-leb (t .0) largest-stamp low, one-formed)
 
-  S2-well-formed : well-formed (holding (S2 k t)) ≡ true
+  S2-well-formed : well-formed no-pairs (holding (S2 k t)) ≡ true
   unfolding well-formed
-  S2-well-formed = rw (r, lt-ltb (k .0) keys b, le-leb (t .0) (t .0) (omega arith), le-leb (t .0) largest-stamp low) one-formed
+  S2-well-formed = rw (r, lt-ltb (k .0) keys b, le-leb (t .0) (t .0) (omega arith), le-leb (t .0) largest-stamp low, one-formed)
 
-  S4-well-formed : (O : Thumb) → well-formed (holding (S4 k t O t)) ≡ true
+  S4-well-formed : (O : Thumb) → well-formed no-pairs (holding (S4 k t O t)) ≡ true
   unfolding well-formed
-  S4-well-formed O = rw (r, lt-ltb (k .0) keys b, le-leb (t .0) (t .0) (omega arith), le-leb (t .0) largest-stamp low) one-formed
+  S4-well-formed O = rw (r, lt-ltb (k .0) keys b, le-leb (t .0) (t .0) (omega arith), le-leb (t .0) largest-stamp low, one-formed)
 
   -- Each stroke. Nothing is due in S1; in S2 not before A, which is not 0; in S4 at once, since the thumb came with the key.
 
@@ -136,26 +139,29 @@ module _ (s : Settings) (r : in-range s ≡ true) (t : Stamp) (low : t .0 ≤ la
   room last = rw (none-held k)
 
   key-goes-down : (last : Stamp) → last .0 ≤ t .0
-      → step (free last) (key-down t k) ≡ acceptance (free last) t one (nothing leaving S2 k t)
-  unfolding one-event settle
+      → step no-pairs (free last) (key-down t k) ≡ acceptance (free last) t one (nothing leaving S2 k t)
+  unfolding one-event settle settle-in
   key-goes-down last h =
-      step-accepted (free last) (key-down t k) (CharacterDown k) (free-well-formed last h) (down-input k b) low h (room last)
+      step-accepted no-pairs (free last) (key-down t k) (CharacterDown k) no-pairs-good (free-well-formed last h)
+      (down-input k b) low h (room last)
       ∙ rw (none-held k)
 
   S2-waits : t .0 < t .0 + A s
   S2-waits = let a = A-positive s (range-bounds s r) in omega arith
 
-  key-comes-up : step (holding (S2 k t)) (key-up t k) ≡ acceptance (holding (S2 k t)) t 0 (plain k leaving S1)
-  unfolding one-event settle same-key is-new
+  key-comes-up : step no-pairs (holding (S2 k t)) (key-up t k) ≡ acceptance (holding (S2 k t)) t 0 (plain k leaving S1)
+  unfolding one-event settle settle-in alone in-some-pair same-key is-new
   key-comes-up =
-      step-accepted (holding (S2 k t)) (key-up t k) (CharacterUp k) S2-well-formed (up-input k b) low (omega arith) refl
+      step-accepted no-pairs (holding (S2 k t)) (key-up t k) (CharacterUp k) no-pairs-good S2-well-formed
+      (up-input k b) low (omega arith) refl
       ∙ rw (one-held, none-again, lt-leb (t .0 + A s) (t .0) S2-waits, eq-eqb (k .0) (k .0) refl)
 
   thumb-goes-down : (O : Thumb)
-      → step (holding (S2 k t)) (thumb-down t O) ≡ acceptance (holding (S2 k t)) t one (nothing leaving S4 k t O t)
-  unfolding one-event settle is-new
+      → step no-pairs (holding (S2 k t)) (thumb-down t O) ≡ acceptance (holding (S2 k t)) t one (nothing leaving S4 k t O t)
+  unfolding one-event settle settle-in alone in-some-pair is-new
   thumb-goes-down O =
-      step-accepted (holding (S2 k t)) (thumb-down t O) (ThumbDown O) S2-well-formed (thumb-down-input O) low (omega arith) refl
+      step-accepted no-pairs (holding (S2 k t)) (thumb-down t O) (ThumbDown O) no-pairs-good S2-well-formed
+      (thumb-down-input O) low (omega arith) refl
       ∙ ap (acceptance (holding (S2 k t)) t one) (rw (lt-leb (t .0 + A s) (t .0) S2-waits))
 
   no-wait : FJ s (t .0 - t .0) ≡ 0
@@ -165,21 +171,24 @@ module _ (s : Settings) (r : in-range s ≡ true) (t : Stamp) (low : t .0 ≤ la
       rw (sub-self, zero-mul) (div-eq-of-lt (omega arith))
 
   chord-comes-out : (O : Thumb)
-      → step (holding (S4 k t O t)) (tick t) ≡ acceptance (holding (S4 k t O t)) t one (chord k O leaving S1)
-  unfolding one-event settle is-new
+      → step no-pairs (holding (S4 k t O t)) (tick t) ≡ acceptance (holding (S4 k t O t)) t one (chord k O leaving S1)
+  unfolding one-event settle settle-in is-new
   chord-comes-out O =
-      step-accepted (holding (S4 k t O t)) (tick t) Tick (S4-well-formed O) tick-input low (omega arith) refl
+      step-accepted no-pairs (holding (S4 k t O t)) (tick t) Tick no-pairs-good (S4-well-formed O)
+      tick-input low (omega arith) refl
       ∙ ap (acceptance (holding (S4 k t O t)) t one) (rw (le-leb (t .0 + FJ s (t .0 - t .0)) (t .0) (rw no-wait (omega arith))))
 
-  thumb-comes-up : (O : Thumb) → step (holding S1) (thumb-up t O) ≡ acceptance (holding S1) t one (nothing leaving S1)
-  unfolding one-event settle is-new
+  thumb-comes-up : (O : Thumb) → step no-pairs (holding S1) (thumb-up t O) ≡ acceptance (holding S1) t one (nothing leaving S1)
+  unfolding one-event settle settle-in is-new
   thumb-comes-up O =
-      step-accepted (holding S1) (thumb-up t O) (ThumbUp O) S1-well-formed (thumb-up-input O) low (omega arith) refl
+      step-accepted no-pairs (holding S1) (thumb-up t O) (ThumbUp O) no-pairs-good S1-well-formed
+      (thumb-up-input O) low (omega arith) refl
 
-  key-comes-up-last : step (holding S1) (key-up t k) ≡ acceptance (holding S1) t 0 (nothing leaving S1)
-  unfolding one-event settle is-new
+  key-comes-up-last : step no-pairs (holding S1) (key-up t k) ≡ acceptance (holding S1) t 0 (nothing leaving S1)
+  unfolding one-event settle settle-in is-new
   key-comes-up-last =
-      step-accepted (holding S1) (key-up t k) (CharacterUp k) S1-well-formed (up-input k b) low (omega arith) refl
+      step-accepted no-pairs (holding S1) (key-up t k) (CharacterUp k) no-pairs-good S1-well-formed
+      (up-input k b) low (omega arith) refl
       ∙ rw (one-held, none-again)
 
   small : t .0 < 256 ^ 8
