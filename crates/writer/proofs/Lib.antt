@@ -3,6 +3,7 @@ pub mod Read
 pub mod Played
 pub mod Refusals
 pub mod RoundTrip
+pub mod DrillSequence
 pub mod Putting
 pub mod Lines
 pub mod Answers

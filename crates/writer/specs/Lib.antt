@@ -2,4 +2,5 @@ pub mod Drills
 pub mod Parts
 pub mod Writes
 pub mod RoundTrip
+pub mod DrillSequence
 pub mod Room
