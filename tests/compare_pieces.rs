@@ -24,8 +24,9 @@ use trabeculon_model::generate::{base_logs, every_place, random_case, typed_log,
 use trabeculon_model::log::Answer;
 use trabeculon_model::model::SLIPS;
 use trabeculon_model::moved::{log_stamps, moved_log, one_move, MOVES};
+use trabeculon_model::pairs::MOST_PAIRS;
 use trabeculon_model::pieces::{
-    end_numbers, fresh_numbers, piece_numbers, Kept, Wrong, PIECE_SLIPS,
+    end_numbers, fresh_numbers, piece_numbers, Kept, Run, Wrong, EMPTY, PIECE_SLIPS,
 };
 use trabeculon_model::program::cut_hex;
 use trabeculon_model::random::Random;
@@ -56,6 +57,10 @@ const SHORT_LOGS_FOR_EVERY_CUT: usize = 20;
 const OFTEN_READ: usize = 1_500;
 /// So many pieces of a log are given once its answer is for good.
 const PIECES_AFTER: usize = 3;
+/// One in so many pieces is also given with a list's run that is too short.
+const CALLS_FOR_A_SHORT_LIST: u64 = 16;
+/// What is answered then.
+const TWO: Answer = Answer { number: 2, waiting: 0, words: 0, offset: 0 };
 /// Bytes before and after a run, to see a write outside it.
 const GUARD: usize = 32;
 
@@ -92,7 +97,7 @@ fn wrong_named(name: &str) -> Option<Wrong> {
 
 fn compare_all(arguments: &Arguments) -> Result<(), String> {
     let (library, model) = (face::reader_fresh(), fresh_numbers());
-    if library != model {
+    if library.lending() != model.lending() {
         return Err(format!("fresh readers differ\nlibrary {library:?}\nmodel   {model:?}"));
     }
     // Single calls first: they show a wrong rule soonest. The damaged logs take longest.
@@ -129,9 +134,10 @@ impl Compared {
         let before = self.random.bytes(end + GUARD);
         let piece = call.piece.clone();
 
-        let (mut left, mut kept) = (before.clone(), call.kept);
-        let answer = face::reader_piece(&mut kept, &piece, &mut left[start..end]);
-        let library = Read { kept, answer };
+        let (mut left, mut reader) = (before.clone(), call.kept.reader);
+        let mut list = List::of(&mut self.random, &call.kept);
+        let answer = face::reader_piece(&mut reader, list.lent(), &piece, &mut left[start..end]);
+        let library = Read { kept: Kept { reader, run: list.run() }, answer };
         let (mut right, mut kept) = (before.clone(), call.kept);
         let answer = piece_numbers(self.wrong, &mut kept, &call.piece, &mut right[start..end]);
         let model = Read { kept, answer };
@@ -142,9 +148,14 @@ impl Compared {
             "the runs differ"
         } else if left != right {
             "a byte outside the run was written"
+        } else if !list.is_whole() {
+            "a number outside the list's run was written"
         } else if piece != call.piece {
             "the piece was written"
         } else {
+            if self.random.once_in(CALLS_FOR_A_SHORT_LIST) {
+                self.short_list(call)?;
+            }
             self.pieces.add(model.answer.number.into());
             self.begun.add(call.kept.reader.count.min(14));
             let words = library.answer.words.saturating_sub(call.kept.reader.words);
@@ -165,7 +176,8 @@ impl Compared {
     /// Says the end both ways.
     fn end(&mut self, given: &Kept) -> Result<Read, String> {
         let (mut left, mut right) = (*given, *given);
-        let answer = face::reader_end(&mut left);
+        let mut list = List::of(&mut self.random, given);
+        let answer = face::reader_end(&mut left.reader, list.lent());
         let library = Read { kept: left, answer };
         let answer = end_numbers(self.wrong, &mut right);
         let model = Read { kept: right, answer };
@@ -175,6 +187,25 @@ impl Compared {
         }
         self.ends.add(model.answer.number.into());
         Ok(library)
+    }
+
+    /// With fewer numbers than the longest list has, a piece and an end are refused 2, and
+    /// nothing is changed.
+    fn short_list(&mut self, call: &Call) -> Result<(), String> {
+        let short = self.random.pick(&[0, 1, 32, 62, 63]);
+        let (given, before) = (call.kept.reader, self.random.bytes(call.room));
+        let (mut list, mut out) = (call.kept.run[..short].to_vec(), before.clone());
+        let (mut left, mut right) = (given, given);
+        let piece = face::reader_piece(&mut left, &mut list, &call.piece, &mut out);
+        let end = face::reader_end(&mut right, &list);
+        let kept = left == given && right == given && out == before;
+        match kept && list == call.kept.run[..short] && piece == TWO && end == TWO {
+            true => Ok(()),
+            false => Err(format!(
+                "a run of {short} numbers is not refused 2, or something is changed\n\
+                 reader  {given:?}\npiece   {piece:?} {left:?}\nend     {end:?} {right:?}"
+            )),
+        }
     }
 
     fn print(&self, what: &str) {
@@ -203,16 +234,55 @@ struct Read {
 
 /// Every number is the same. Where the reader that was given had bits above the bytes
 /// that came, and is neither refused nor for good, and no record became whole, what
-/// stands there afterwards is not asked. Of the run only the pairs of the list are asked,
-/// and of one that is not whole what came of them.
+/// stands there afterwards is not asked; nor what pairs, T_s and N are before a list or
+/// an event came. Where a list may still come, of its run only the pairs are asked, and
+/// of a list that is not whole what came of them; elsewhere it stays as it was.
 fn same(given: &Kept, library: &Read, model: &Read) -> bool {
     let (left, right) = (&library.kept.reader, &model.kept.reader);
-    let kept = given.reader.told == 1 || model.answer.number == 2;
+    let run = &library.kept.run;
+    if given.reader.told == 1 || model.answer.number == 2 {
+        return library.answer == model.answer && library.kept == *given && left == right;
+    }
     let begun = right.told == 0 && right.offset == given.reader.offset;
-    let free = !kept && begun && given.reader != given.reader.clean();
+    let free = begun && given.reader != given.reader.clean();
+    let (lent_left, lent_right) = (left.lending(), right.lending());
     library.answer == model.answer
-        && (left == right || free && left.clean() == right.clean())
-        && model.kept.says(&library.kept.run)
+        && (lent_left == lent_right || free && lent_left.clean() == lent_right.clean())
+        && model.kept.says(run)
+        && (*run == given.run || given.reader.may_list())
+}
+
+/// The run that a list's pairs live in as it is lent: with numbers around it that must not
+/// be written, and sometimes longer than the longest list.
+struct List {
+    before: Vec<u32>,
+    numbers: Vec<u32>,
+    length: usize,
+}
+
+impl List {
+    fn of(random: &mut Random, kept: &Kept) -> List {
+        let length = MOST_PAIRS + if random.once_in(4) { random.place(40) } else { 0 };
+        let mut numbers: Vec<u32> = (0..length + 2).map(|_| random.next() as u32).collect();
+        numbers[1..][..MOST_PAIRS].copy_from_slice(&kept.run);
+        List { before: numbers.clone(), numbers, length }
+    }
+
+    fn lent(&mut self) -> &mut [u32] {
+        &mut self.numbers[1..][..self.length]
+    }
+
+    fn run(&self) -> Run {
+        let mut run = EMPTY;
+        run.copy_from_slice(&self.numbers[1..][..MOST_PAIRS]);
+        run
+    }
+
+    /// What is around the run and behind the longest list is as it was.
+    fn is_whole(&self) -> bool {
+        let behind = 1 + MOST_PAIRS;
+        self.before[0] == self.numbers[0] && self.before[behind..] == self.numbers[behind..]
+    }
 }
 
 // ---- Single calls ----

@@ -11,7 +11,7 @@ use trabeculon_model::live::{at, Asked, Flat, Opened, Stamp, Stepped};
 use trabeculon_model::log::{Answer, RawSettings};
 use trabeculon_model::model::Event;
 use trabeculon_model::pairs::Lent;
-use trabeculon_model::pieces::{FlatReader, Kept, PieceRead};
+use trabeculon_model::pieces::{FlatReader, PieceRead};
 
 extern "C" {
     fn trabeculon_read_log(log: *const u8, log_len: usize, out: *mut u8, out_len: usize) -> Answer;
@@ -83,21 +83,25 @@ pub fn reader_fresh() -> FlatReader {
 }
 
 /// The reader afterwards takes the place of the one before; the run that its pairs live in
-/// is lent with it.
-pub fn reader_piece(kept: &mut Kept, piece: &[u8], out: &mut [u8]) -> Answer {
-    let (list, list_len) = (kept.run.as_mut_ptr(), kept.run.len());
+/// is lent with it, of any length.
+pub fn reader_piece(
+    reader: &mut FlatReader,
+    list: &mut [u32],
+    piece: &[u8],
+    out: &mut [u8],
+) -> Answer {
+    let (pairs, pairs_len) = (list.as_mut_ptr(), list.len());
     let (bytes, run) = (piece.as_ptr(), out.as_mut_ptr());
     let (piece_len, out_len) = (piece.len(), out.len());
     let read = unsafe {
-        trabeculon_reader_piece(kept.reader, list, list_len, bytes, piece_len, run, out_len)
+        trabeculon_reader_piece(*reader, pairs, pairs_len, bytes, piece_len, run, out_len)
     };
-    kept.reader = read.reader;
+    *reader = read.reader;
     read.answer
 }
 
-pub fn reader_end(kept: &mut Kept) -> Answer {
-    let (list, list_len) = (kept.run.as_ptr(), kept.run.len());
-    let read = unsafe { trabeculon_reader_end(kept.reader, list, list_len) };
-    kept.reader = read.reader;
+pub fn reader_end(reader: &mut FlatReader, list: &[u32]) -> Answer {
+    let read = unsafe { trabeculon_reader_end(*reader, list.as_ptr(), list.len()) };
+    *reader = read.reader;
     read.answer
 }

@@ -161,7 +161,7 @@ fn check_limit() -> Result<(), String> {
 
 fn check_numbers() -> Result<(), String> {
     let fresh = fresh_numbers();
-    expect("fresh", fresh, FlatReader::default())?;
+    expect("fresh", fresh, FlatReader::default().lending())?;
     let log = log_of((100, 50, 50, 0), &keystrokes("21@7 21up@50")?);
     let opened = Flat { t: 100, j: 50, l: 50, state: 1, ..Flat::default() };
     let waiting = Flat { state: 2, key: 21, m: at(7), last: at(7), held: bit(21), ..opened };

@@ -29,9 +29,8 @@ pub fn random_call(random: &mut Random) -> Call {
     let count = random_count(random, &bytes);
     let (begun, rest) = bytes.split_at(count);
     let piece = random_part(random, rest);
-    let listed = before.offset == SETTINGS_LENGTH as u64;
     let far = random_offset(random, (count + piece.len()) as u64);
-    let offset = if listed { before.offset } else { far };
+    let offset = if before.opened && random.once_in(2) { before.offset } else { far };
     let most_words = 2 * offset / 13;
     let words = random.pick(&[0, most_words / 2, most_words.saturating_sub(1), most_words]);
     let before = Before { offset, ..before };
@@ -49,24 +48,29 @@ pub fn random_call(random: &mut Random) -> Call {
 }
 
 /// What was read before, and records that may come next: nothing yet, straight after the
-/// settings with a list to come, or anywhere, with a list or without.
+/// settings, mostly with a list to come (a reader made up may have any machine there and
+/// any offset), or anywhere, with a list or without.
 fn random_place(random: &mut Random) -> (Before, Vec<u8>) {
+    let right = live::Wrong::default();
     if random.once_in(5) {
         return (Before::default(), random_settings(random));
     }
     if random.once_in(5) {
-        let machine = open(right_settings(random));
-        let list = random_list(random);
+        let machine = match random.once_in(4) {
+            false => open(right_settings(random)),
+            true => right_state(random, &NO_PAIRS).machine_with(&NO_PAIRS, right).ok(),
+        };
+        let list = if random.once_in(4) { vec![] } else { random_list(random) };
         let events = machine.map_or(vec![], |machine| random_records(random, &NO_PAIRS, machine));
         let offset = SETTINGS_LENGTH as u64;
-        let before = Before { machine, offset, ..Before::default() };
+        let before = Before { machine, opened: true, offset, ..Before::default() };
         return (before, [list, events].concat());
     }
     let lent = if random.once_in(2) { NO_PAIRS.clone() } else { right_lent(random) };
     let flat = right_state(random, &lent);
-    let machine = flat.machine_with(&lent, live::Wrong::default()).ok();
+    let machine = flat.machine_with(&lent, right).ok();
     let records = machine.map_or(vec![], |machine| random_records(random, &lent, machine));
-    (Before { machine, lent, offset: 0 }, records)
+    (Before { machine, lent, ..Before::default() }, records)
 }
 
 /// A list record, good, bad or of a wrong length.
@@ -189,7 +193,7 @@ fn broken(random: &mut Random, lent: &Lent, kept: Kept) -> Kept {
     let length = 3 + reader.header % 65_536;
     let beyond = random.pick(&[LONGEST_LOG + 1, LONGEST_LOG + 256, 1 << 63, u64::MAX]);
     let bound = 2 * reader.offset / 13;
-    let reader = match random.below(10) {
+    let reader = match random.below(12) {
         0 => FlatReader { machine: broken_state(random, lent), ..reader },
         1 => FlatReader { machine: nameless_state(random, lent), ..reader },
         2 => FlatReader { offset: beyond, ..reader },
@@ -201,7 +205,9 @@ fn broken(random: &mut Random, lent: &Lent, kept: Kept) -> Kept {
         5 => FlatReader { told: 0, number: random.pick(&[1, 2, 6, 9, u32::MAX]), ..reader },
         6 => FlatReader { told: 1, number: random.pick(&[2, 10, 13, u32::MAX]), ..reader },
         7 => return with_list(reader, &wrong_lent(random).0),
-        8 => FlatReader { pairs: random.pick(&[65, 66, u32::MAX]), ts: 50, n: 50, ..reader },
+        8 => FlatReader { pairs: random.pick(&[63, 64, 65, u32::MAX]), ts: 50, n: 50, ..reader },
+        9 => FlatReader { opened: random.pick(&[1 - reader.opened, 2, 255]), ..reader },
+        10 => FlatReader { ts: random.pick(&[0, 49, 1_001]), ..reader },
         _ => FlatReader { told: random.pick(&[2, 3, 256, u32::MAX]), ..reader },
     };
     Kept { reader, run }
@@ -211,7 +217,7 @@ fn broken(random: &mut Random, lent: &Lent, kept: Kept) -> Kept {
 fn with_list(reader: FlatReader, lent: &Lent) -> Kept {
     let mut run = EMPTY;
     run.iter_mut().zip(&lent.pairs).for_each(|(place, pair)| *place = pair.number());
-    let (pairs, ts, n) = (lent.pairs.len() as u32, lent.ts, lent.n.into());
+    let (pairs, ts, n) = (lent.pairs.len() as u32, lent.ts, lent.n);
     Kept { reader: FlatReader { pairs, ts, n, ..reader }, run }
 }
 
@@ -265,8 +271,9 @@ const FRESH: FlatReader = FlatReader {
     told: 0,
     number: 0,
     pairs: 0,
-    ts: 0,
-    n: 0,
+    ts: 50,
+    n: 1,
+    opened: 0,
 };
 const BETWEEN: FlatReader = FlatReader { machine: WAITING, offset: 1_021, words: 157, ..FRESH };
 
@@ -276,7 +283,7 @@ const BETWEEN: FlatReader = FlatReader { machine: WAITING, offset: 1_021, words:
 const BASES: [FlatReader; 17] = [
     FRESH,
     FlatReader { count: 7, header: 0x01_0005, front: 100, tail: 0x3232, ..FRESH },
-    FlatReader { machine: OPENED, offset: 8, ..FRESH },
+    LISTING,
     BETWEEN,
     FlatReader { count: 2, header: 0x0200, ..BETWEEN },
     FlatReader { count: 4, header: 0x02_000a, front: 2, ..BETWEEN },
@@ -297,7 +304,7 @@ const BASES: [FlatReader; 17] = [
 const TWO: Flat = Flat { state: 7, second: 24, k: at(50), ..WAITING };
 
 /// Straight after the settings.
-const LISTING: FlatReader = FlatReader { machine: OPENED, offset: 8, ..FRESH };
+const LISTING: FlatReader = FlatReader { machine: OPENED, offset: 8, opened: 1, ..FRESH };
 
 /// What stands in the run of them all: the pair that waits, and another.
 fn usual_run() -> Run {
@@ -330,7 +337,7 @@ const MORE_VALUES: [u64; 15] = [
 ];
 
 /// How many places a reader's numbers have besides its machine's.
-const OWN_PLACES: usize = 11;
+const OWN_PLACES: usize = 12;
 
 /// A number put into one place; none if it is too large for it.
 fn with(reader: FlatReader, place: usize, value: u64) -> Option<FlatReader> {
@@ -346,7 +353,8 @@ fn with(reader: FlatReader, place: usize, value: u64) -> Option<FlatReader> {
         7 => FlatReader { number: short?, ..reader },
         8 => FlatReader { pairs: short?, ..reader },
         9 => FlatReader { ts: u16::try_from(value).ok()?, ..reader },
-        10 => FlatReader { n: u16::try_from(value).ok()?, ..reader },
+        10 => FlatReader { n: u8::try_from(value).ok()?, ..reader },
+        11 => FlatReader { opened: u8::try_from(value).ok()?, ..reader },
         _ => {
             let machine = states::with(reader.machine, place - OWN_PLACES, value)?;
             FlatReader { machine, ..reader }
