@@ -2,14 +2,13 @@
 //! read whole and in pieces:
 //!
 //!   bench [ROUNDS [MIB]]
-//!   bench once READER SIZE
+//!   bench once READER SIZE [list]
 //!
 //! 50 MiB of valid typed logs of at most 65,536 bytes each are made in memory, and as
 //! much again of 1 MiB each, to be read in pieces (in_pieces.rs); first logs with no list
 //! of pairs, then as many that have one (9/12), in which two letters are often typed
-//! together. Before timing, all
-//! readers are compared with the model on every log. In each round every log is read
-//! by every reader, one right after the other; which goes first changes from log to
+//! together. Before timing, all readers are compared with the model on every log. In each
+//! round every log is read by every reader, one right after the other; which goes first changes from log to
 //! log and from round to round. Each reader has one run of its own, written in full
 //! once before timing (so that its pages are there) and not cleared between logs or
 //! rounds.
@@ -49,7 +48,10 @@ fn main() -> ExitCode {
     let words: Vec<String> = std::env::args().skip(1).collect();
     let words: Vec<&str> = words.iter().map(String::as_str).collect();
     let done = match words[..] {
-        ["once", reader, size] => size.parse().ok().and_then(|size| once(reader, size)),
+        ["once", reader, size] => size.parse().ok().and_then(|size| once(reader, size, false)),
+        ["once", reader, size, "list"] => {
+            size.parse().ok().and_then(|size| once(reader, size, true))
+        }
         [] => timed_all(DEFAULT_ROUNDS, DEFAULT_MIB),
         [rounds] => rounds.parse().ok().and_then(|rounds| timed_all(rounds, DEFAULT_MIB)),
         [rounds, mib] => {
@@ -65,7 +67,7 @@ fn main() -> ExitCode {
         }
         None => {
             eprintln!("usage: bench [ROUNDS [MIB]]");
-            eprintln!("       bench once library|same-face|private SIZE");
+            eprintln!("       bench once library|same-face|private SIZE [list]");
             ExitCode::from(2)
         }
     }
@@ -84,8 +86,8 @@ fn timed_all(rounds: usize, mib: usize) -> Done {
     Some(compared.and_then(|()| timed(false)).and_then(|()| timed(true)))
 }
 
-fn once(reader: &str, size: usize) -> Done {
-    let (pieces, events) = in_pieces::read_once(reader, size)?;
+fn once(reader: &str, size: usize, list: bool) -> Done {
+    let (pieces, events) = in_pieces::read_once(reader, size, list)?;
     println!("{pieces} pieces {events} events");
     Some(Ok(()))
 }

@@ -202,9 +202,8 @@ pub const LIST_OFFSET: u64 = 8;
 pub fn keep_pairs(run: &mut [u32; MOST_PAIRS], count: u64, bytes: &[u8]) {
     for (index, byte) in (count..).zip(bytes).filter(|(index, _)| *index >= LIST_HEAD as u64) {
         let place = (index - LIST_HEAD as u64) as usize;
-        let shift = 24 - 8 * (place % 4);
         if let Some(number) = run.get_mut(place / 4) {
-            *number = *number & !(0xff << shift) | u32::from(*byte) << shift;
+            *number = *number << 8 | u32::from(*byte);
         }
     }
 }

@@ -96,9 +96,10 @@ fn agrees<F: Face>(call: &Call) -> Result<(), String> {
     let same_list = Numbered { reader: model.reader, run: right_list }.says(&left_list);
     let calls = [(read, model), (F::end(*reader, list), Model::end(*reader, list))];
     let same = calls.iter().all(|(read, model)| {
-        // Beside 2 byte for byte; else bits above the bytes that came say nothing.
+        // Beside 2 byte for byte; else bits above the bytes that came say nothing, nor do
+        // pairs, T_s and N before a list or an event.
         let exactly = model.answer.number == 2;
-        let cleaned = read.reader.clean() == model.reader.clean();
+        let cleaned = read.reader.lending().clean() == model.reader.lending().clean();
         read.answer == model.answer && cleaned && (!exactly || read.reader == *reader)
     });
     if same && run == right && same_list {
@@ -214,10 +215,10 @@ fn report(size: usize, times: &[Times; 3]) {
     );
 }
 
-/// Reads one log once, in pieces of this size and with one reader. How many pieces, and
-/// how many events; none if there is no such reader or size.
-pub fn read_once(reader: &str, size: usize) -> Option<(usize, usize)> {
-    let log = &make_logs(1, LENGTH_ONCE, false)[0];
+/// Reads one log once, with a list or without, in pieces of this size and with one reader.
+/// How many pieces, and how many events; none if there is no such reader or size.
+pub fn read_once(reader: &str, size: usize, list: bool) -> Option<(usize, usize)> {
+    let log = &make_logs(1, LENGTH_ONCE, list)[0];
     if size == 0 {
         return None;
     }

@@ -166,7 +166,7 @@ fn check_numbers() -> Result<(), String> {
     let opened = Flat { t: 100, j: 50, l: 50, state: 1, ..Flat::default() };
     let waiting = Flat { state: 2, key: 21, m: at(7), last: at(7), held: bit(21), ..opened };
     let ended = Flat { last: at(50), ..opened };
-    let begun = FlatReader { machine: waiting, offset: 21, ..FlatReader::default() };
+    let begun = FlatReader { machine: waiting, offset: 21, ..fresh };
     let after = [
         (0, fresh),
         (1, FlatReader { count: 1, header: 1, ..fresh }),
@@ -174,7 +174,7 @@ fn check_numbers() -> Result<(), String> {
         (4, FlatReader { count: 4, header: 0x01_0005, ..fresh }),
         (5, FlatReader { count: 5, header: 0x01_0005, front: 100, ..fresh }),
         (7, FlatReader { count: 7, header: 0x01_0005, front: 100, tail: 0x3232, ..fresh }),
-        (8, FlatReader { machine: opened, offset: 8, ..fresh }),
+        (8, FlatReader { machine: opened, offset: 8, opened: 1, ..fresh }),
         (21, begun),
         (26, FlatReader { count: 5, header: 0x02_000a, front: 0x0215, ..begun }),
         (33, FlatReader { count: 12, header: 0x02_000a, front: 0x0215, ..begun }),
