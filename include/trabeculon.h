@@ -66,6 +66,12 @@ extern "C" {
 #define TRABECULON_S8 8
 
 /*
+ * So many pairs a list may have, and so many numbers the row must have that is
+ * lent to the reader of a log in pieces.
+ */
+#define TRABECULON_MOST_PAIRS 64
+
+/*
  * The numbers given back: 0, and the refusals. Each function gives some of
  * them, in an order that is said there.
  */
@@ -76,7 +82,7 @@ extern "C" {
 #define TRABECULON_STAMP_TOO_LARGE 4 /* above the largest */
 #define TRABECULON_STAMP_TOO_EARLY 5 /* before the last accepted one */
 #define TRABECULON_CUT 6             /* log empty, or header or body cut */
-#define TRABECULON_WRONG_RECORD 7    /* tag, length, or place of the settings */
+#define TRABECULON_WRONG_RECORD 7    /* tag, length or place */
 #define TRABECULON_NO_ROOM 8         /* the run is too short */
 #define TRABECULON_LOG_TOO_LONG 9    /* only in pieces */
 #define TRABECULON_ON_NO_FACE 10     /* a drill's character */
@@ -111,13 +117,15 @@ typedef struct {
  *          4  stamp above the largest, 1,000,000,000,000
  *          5  stamp before the last accepted one
  *          6  log empty, or a record's header or body cut
- *          7  tag unknown, length wrong, settings missing first or met again
+ *          7  tag unknown, length wrong, settings missing first or met again,
+ *             or a list of pairs that is not straight behind the settings
  *          8  the record's words don't all fit into the run
  *          11 a press of a new key while 6 are held: see trabeculon_step
- *          On each record they are tried in the order 6, 7, then 1 (settings)
- *          or 3, 4, 5, 11 (event), then 8; the first that holds is given, and
- *          reading stops there.
- * waiting  how many characters wait after the last accepted record, 0 or 1; a
+ *          12 the list of pairs, T_s or N refused: see "A live keyboard" below
+ *          On each record they are tried in the order 6, 7, then 1 (settings),
+ *          12 (list of pairs) or 3, 4, 5, 11 (event), then 8; the first that
+ *          holds is given, and reading stops there.
+ * waiting  how many characters wait after the last accepted record, 0 to 2; a
  *          key whose face is empty counts too. 0 if the log never opened. The
  *          end of a log is no key event, so what waits is not committed.
  * words    how many words were written.
@@ -140,16 +148,21 @@ typedef struct {
  * 2 character up, 3 thumb down, 4 thumb up, 5 function down, 6 tick. Key is
  * 0 to 30 for kinds 1 and 2, 0 (left) or 1 (right) for 3 and 4, 0 for 5 and 6.
  *
- * A word is a character's code point, 1 for the left mark or 2 for the right
- * mark; an empty face gives no word. Each word leaves as two bytes, high byte
- * first. The run has room for out_len / 2 words.
+ * Tag 3, length 3 + 4n, is a list of n pairs (request 9/12): T_s (2 bytes), N,
+ * then 4 bytes a pair: key, key, character (2 bytes). It stands straight behind
+ * the settings and only there, or nowhere; n is at most 64. It is lent with
+ * every event of the log; a log that has none has no pairs.
+ *
+ * A word is the code point of a character, of the layout or of a pair, 1 for
+ * the left mark or 2 for the right mark; an empty face gives no word. Each word
+ * leaves as two bytes, high byte first. The run has room for out_len / 2 words.
  *
  * Afterwards, whatever the number:
  *   - the first 2 * words bytes of out hold the words of the accepted records,
  *     in order;
  *   - every other byte of out holds what it held before, an odd last byte
  *     among them. A record refused 8 writes none of its words, and after
- *     refusal 1 there are no words at all;
+ *     refusal 1 or 12 there are no words at all;
  *   - the log is unchanged.
  * Nothing is kept between two calls.
  *
@@ -513,13 +526,21 @@ trabeculon_asked trabeculon_distance(trabeculon_machine machine,
  * A log that arrives in pieces, of any size, even of no bytes: what its host
  * does.
  *
- *   - Once: trabeculon_reader_fresh.
- *   - On each piece: trabeculon_reader_piece with the reader, the piece, and a
- *     run of its own for the words of the records whose last byte it brings.
- *     The reader of the answer takes the place of the old one, whatever the
- *     number. The line grows by the words at the run's front, as many as the
- *     total has grown by.
- *   - When the log has ended: trabeculon_reader_end.
+ *   - Once: trabeculon_reader_fresh, and a row of TRABECULON_MOST_PAIRS numbers
+ *     of 32 bits for the log's list of pairs, whatever they are.
+ *   - On each piece: trabeculon_reader_piece with the reader, the row, the
+ *     piece, and a run of its own for the words of the records whose last byte
+ *     it brings. The reader of the answer takes the place of the old one,
+ *     whatever the number. The line grows by the words at the run's front, as
+ *     many as the total has grown by.
+ *   - When the log has ended: trabeculon_reader_end with the reader and row.
+ *
+ * A list of pairs (request 9/12) is longer than a reader has room for, so it
+ * lives in that row, which belongs to the reader: it is lent with every call
+ * for the log, as the last call left it. A log that has no list needs it too,
+ * since any may have one. It may be longer than 64 numbers; one that is shorter
+ * is refused 2. The numbers behind the 64th are never written. Once an event or
+ * a list was accepted, or an answer is for good, nothing in it is.
  *
  * However the log is cut, until an 8 or 9 the words joined, the totals, the
  * number and the offset are those that trabeculon_read_log answers for the
@@ -531,10 +552,10 @@ trabeculon_asked trabeculon_distance(trabeculon_machine machine,
  * Once a number other than 0 was told, or the end was said, that answer is for
  * good: every further piece or end gets it again, and nothing is written.
  *
- * The host keeps the reader. Nothing is kept here between two calls, so any
- * number of logs can be read side by side, each with its own reader; and the
- * host may save a reader, byte for byte, and go on with it later, in another
- * process too.
+ * The host keeps the reader and its row. Nothing is kept here between two
+ * calls, so any number of logs can be read side by side, each with its own
+ * reader and row; and the host may save both, byte for byte, and go on with
+ * them later, in another process too.
  *
  * Proved, of calls from a fresh reader on: the words, the answers, that they
  * are those of the whole log, that a reader which a call handed back is not
@@ -555,36 +576,48 @@ trabeculon_asked trabeculon_distance(trabeculon_machine machine,
  * front    bytes 3 and 4 in the same way
  * tail     bytes 5 to 12 in the same way. Bytes behind these are only counted,
  *          since a record that has them is refused 7 whatever they are.
+ *          Of a record with tag 3 where opened is 1 byte 5 alone: its pairs
+ *          stand in the row, one number a pair, of the last one as many bytes
+ *          as came, at the number's low end. Bytes behind 64 pairs are only
+ *          counted, since such a record is refused 7 or 12.
  * told     1 once a record was refused or the end was said, else 0
  * number   the number of that answer; 0 if told is 0
+ * pairs    how many numbers at the row's front are lent to the events, in the
+ *          form that trabeculon_step takes
+ * ts, n    T_s and N beside them. Where the log has no list these three are
+ *          0 pairs, 50 and 1.
+ * opened   1 straight behind the settings, where a list may come; else 0
  *
  * A host keeps these numbers and hands them on. It may look into them, and it
  * may save them and go on later. Any numbers may be handed over; those that are
  * no reader are refused:
  *
- * They name a reader if the machine's numbers name a machine or are all 0, and
- * told is 1, or told and number are 0. That reader is well formed if its
- * machine is, if it has one; 13 * words <= 2 * offset; offset + count is at
- * most 1,000,000,000,000; count is below the length that the record states,
- * 3 plus 256 times byte 1 plus byte 2, a byte that did not come counting 0;
- * and, if told is 1, number is 0, 1, 3 to 9 or 11 and count is 0. Numbers that
- * name no reader, or one that is not well formed, are refused 2. The fresh
- * reader is well formed, and a call with a well-formed reader, however the host
- * came by it, hands back a well-formed one; so numbers that were saved go on
- * without a 2.
+ * They name a reader if the machine's numbers are all 0 and so is opened, or if
+ * they name a machine and opened is 0 or 1; and told is 1, or told and number
+ * are 0. That reader is well formed if its machine is, if it has one: with no
+ * pairs where opened is 1, else with the list that pairs, ts, n and the row
+ * name, which must be one that trabeculon_step accepts; pairs is then at most
+ * 64; 13 * words <= 2 * offset; offset + count is at most 1,000,000,000,000;
+ * count is below the length that the record states, 3 plus 256 times byte 1
+ * plus byte 2, a byte that did not come counting 0; and, if told is 1, number
+ * is 0, 1, 3 to 9, 11 or 12 and count is 0. Numbers that name no reader, or one
+ * that is not well formed, are refused 2. The fresh reader is well formed, and
+ * a call with a well-formed reader and its row, however the host came by them,
+ * hands back a well-formed one; so numbers that were saved go on without a 2.
  *
  * Bits of header, front and tail above the bytes that came say nothing, and a
  * call may leave any bits there. With count 4, say, these are the bits of
- * header from 24 on, those of front from 8 on, and all of tail.
+ * header from 24 on, those of front from 8 on, and all of tail. Nor do pairs,
+ * ts and n before the settings and where opened is 1.
  *
- * It is 104 bytes with no padding.
+ * It is 120 bytes with no padding.
  *
- * Proved: the numbers lose nothing of a reader, its machine's held set having
- * 32 bits as above, and name it (ReadersBack, host/specs/ReadersBack.antt, over
- * reader-numbers and reader-named, Readers.antt); which are well formed
- * (formed, keylog/specs/Pieces.antt), and that calls keep them so
- * (piece-goes-on and end-goes-on in InPiecesFacts).
- * Tested: the 104 bytes (below, and tests/c/read_pieces.c).
+ * Proved: the numbers lose nothing of a reader and name it (ReadersBack,
+ * pieces/specs/ReadersBack.antt, over reader-numbers and reader-named,
+ * Readers.antt); which are well formed (accepted there, over formed,
+ * keylog/specs/Pieces.antt), and that calls keep them so (piece-goes-on and
+ * end-goes-on in InPiecesFacts).
+ * Tested: the 120 bytes (below, and tests/c/read_pieces.c).
  */
 typedef struct {
     trabeculon_machine machine;
@@ -596,6 +629,10 @@ typedef struct {
     uint64_t tail;
     uint32_t told;
     uint32_t number;
+    uint32_t pairs;
+    uint16_t ts;
+    uint8_t n;
+    uint8_t opened;
 } trabeculon_reader;
 
 /*
@@ -605,25 +642,25 @@ typedef struct {
  *                 byte for byte, even if it is none
  * answer.number   0  no record was refused; from trabeculon_reader_end, nor is
  *                    one cut
- *                 2  the numbers name no reader, or one that is not well
- *                    formed
+ *                 2  the row is shorter than 64 numbers, or the numbers name
+ *                    no reader, or one that is not well formed
  *                 6  the log is empty, or a record's header or body cut: only
  *                    once the end was said
  *                 8  the record's words don't all fit into the run of the piece
  *                    that brings its last byte
  *                 9  the piece takes the log past 1,000,000,000,000 bytes; no
  *                    byte of it is read
- *                 1, 3, 4, 5, 7 and 11 as trabeculon_read_log gives them. In a
- *                 call 2 is tried first, then whether an answer is for good,
- *                 then 9, then the records as there.
- * answer.waiting  how many characters wait after the last accepted record, 0 or
- *                 1; beside 2: 0
+ *                 1, 3, 4, 5, 7, 11 and 12 as trabeculon_read_log gives them.
+ *                 In a call 2 is tried first, then whether an answer is for
+ *                 good, then 9, then the records as there.
+ * answer.waiting  how many characters wait after the last accepted record, 0 to
+ *                 2; beside 2: 0
  * answer.words    how many words were written, in all pieces; beside 2: 0
  * answer.offset   where the refused record starts, in bytes from the log's
  *                 start; beside 0 the bytes so far, beside 9
  *                 1,000,000,000,000, beside 2: 0
  *
- * It is 128 bytes with no padding.
+ * It is 144 bytes with no padding.
  */
 typedef struct {
     trabeculon_reader reader;
@@ -649,11 +686,14 @@ trabeculon_reader trabeculon_reader_fresh(void);
  *     words of the reader that was given (beside 2 there are none);
  *   - every other byte of out holds what it held before, an odd last byte
  *     among them. A record refused 8 writes none of its words;
+ *   - the row at list holds what the reader of the answer needs; beside 2, and
+ *     where no list may come any more, what it held before;
  *   - the piece is unchanged.
  *
- * The caller lends piece_len readable bytes at piece and out_len writable bytes
- * at out, which don't overlap. Either length may be 0; the pointer is not null
- * even then. No alignment is asked.
+ * The caller lends list_len writable numbers at list, aligned as a uint32_t is,
+ * piece_len readable bytes at piece and out_len writable bytes at out, which
+ * don't overlap. Each length may be 0; the pointer is not null even then. No
+ * alignment is asked of the bytes.
  *
  * Proved: the answer, the reader and the run afterwards (GivesPiece,
  * host/specs/InPieces.antt, over piece, keylog/specs/Pieces.antt); 9, and what
@@ -661,18 +701,22 @@ trabeculon_reader trabeculon_reader_fresh(void);
  * many bytes suffices (room-suffices and never-8 in InPiecesFacts).
  */
 trabeculon_piece_read trabeculon_reader_piece(trabeculon_reader reader,
+                                              uint32_t *list, size_t list_len,
                                               const uint8_t *piece,
                                               size_t piece_len, uint8_t *out,
                                               size_t out_len);
 
 /*
  * Says that the log has ended. The end of a log is no key event, so what waits
- * is not committed, and there are no words to write.
+ * is not committed, and there are no words to write. The row is read and not
+ * written.
  *
  * Proved: the answer and the reader (GivesEnd, host/specs/InPieces.antt, over
  * end, keylog/specs/Pieces.antt).
  */
-trabeculon_piece_read trabeculon_reader_end(trabeculon_reader reader);
+trabeculon_piece_read trabeculon_reader_end(trabeculon_reader reader,
+                                            const uint32_t *list,
+                                            size_t list_len);
 
 /*
  * The structs are as large here as in the library, or this does not compile.
@@ -693,8 +737,8 @@ TRABECULON_SIZE(trabeculon_machine, 56);
 TRABECULON_SIZE(trabeculon_opened, 64);
 TRABECULON_SIZE(trabeculon_stepped, 80);
 TRABECULON_SIZE(trabeculon_asked, 16);
-TRABECULON_SIZE(trabeculon_reader, 112);
-TRABECULON_SIZE(trabeculon_piece_read, 136);
+TRABECULON_SIZE(trabeculon_reader, 120);
+TRABECULON_SIZE(trabeculon_piece_read, 144);
 #undef TRABECULON_SIZE
 
 #ifdef __cplusplus

@@ -1,10 +1,8 @@
 /*
- * Reads a log in pieces through include/trabeculon.h as a C host would, and
- * checks each answer, the words, and that the rest of each run is untouched.
- * Prints one line per check; exits 1 if one failed.
- *
- *   read_pieces [LOG]   the log of document 01, examples/saigai.log if none is
- *                       named
+ * Reads logs in pieces through include/trabeculon.h as a C host would, and
+ * checks each answer, the words, and that the rest of each run is untouched, and
+ * of the row that a list of pairs lives in. Prints one line per check; exits 1 if
+ * one failed. Run from the repository's root, where the logs are: examples/.
  */
 #include "trabeculon.h"
 
@@ -12,20 +10,31 @@
 #include <string.h>
 
 #define LOG_LEN 138
+#define PAIR_LEN 70
+#define LIST_AT 8 /* where a list stands: behind the settings */
+#define LIST_END 18
+#define ROW_LEN (TRABECULON_MOST_PAIRS + 2)
 #define RUN_LEN 64
 #define LINE_LEN 64
 #define UNTOUCHED 0xA5
 #define LONGEST_LOG 1000000000000u
 
 /* The header checks the sizes; there is no padding where these lie as they do. */
-_Static_assert(offsetof(trabeculon_reader, offset) == 48, "the machine comes first");
-_Static_assert(offsetof(trabeculon_reader, number) == 100, "a reader has no padding");
-_Static_assert(offsetof(trabeculon_piece_read, answer) == 104, "its answer neither");
+_Static_assert(offsetof(trabeculon_reader, offset) == 56, "the machine comes first");
+_Static_assert(offsetof(trabeculon_reader, number) == 108, "a reader has no padding");
+_Static_assert(offsetof(trabeculon_reader, opened) == 119, "nor at its end");
+_Static_assert(offsetof(trabeculon_piece_read, answer) == 120, "its answer neither");
 
 /* The words of the log: U+3055, U+3044, U+304C, U+3044. */
 static const uint8_t WORDS[8] = {0x30, 0x55, 0x30, 0x44, 0x30, 0x4C, 0x30, 0x44};
+/* Of the log with a list, whose pair 21, 24 gives U+308E; and of the one in which the
+ * second key goes up too late: U+304B, U+3055. */
+static const uint8_t PAIR_WORDS[2] = {0x30, 0x8E};
+static const uint8_t LATE_WORDS[4] = {0x30, 0x4B, 0x30, 0x55};
 
 static uint8_t log_bytes[LOG_LEN];
+static uint8_t pair_bytes[PAIR_LEN];
+static uint8_t late_bytes[PAIR_LEN];
 static int failures = 0;
 
 static void report(const char *name, const char *what, int ok) {
@@ -59,17 +68,20 @@ static int all_untouched(const uint8_t *bytes, size_t length) {
     return 1;
 }
 
-/* What a host has of a log: the reader, and the line so far. */
+/* What a host has of a log: the reader, the row that its list lives in, and the line so
+ * far. The row is a little longer than it must be. */
 typedef struct {
     trabeculon_piece_read last;
+    uint32_t row[ROW_LEN];
     uint8_t line[LINE_LEN];
     size_t line_len;
-    int clean; /* no byte of a run was touched besides the words */
+    int clean; /* nothing was touched besides the words and the row's first 64 */
 } host;
 
 static host begin(void) {
     host h;
     memset(&h, 0, sizeof h);
+    memset(h.row, UNTOUCHED, sizeof h.row);
     h.last.reader = trabeculon_reader_fresh();
     h.clean = 1;
     return h;
@@ -80,35 +92,46 @@ static void take_piece(host *h, const uint8_t *piece, size_t piece_len, size_t r
     uint8_t run[RUN_LEN];
     memset(run, UNTOUCHED, sizeof run);
     trabeculon_piece_read got =
-        trabeculon_reader_piece(h->last.reader, piece, piece_len, run, run_len);
+        trabeculon_reader_piece(h->last.reader, h->row, ROW_LEN, piece, piece_len, run, run_len);
     size_t written =
         got.answer.number == 2 ? 0 : 2 * (size_t)(got.answer.words - h->last.reader.words);
     memcpy(h->line + h->line_len, run, written);
     h->line_len += written;
-    h->clean = h->clean && all_untouched(run + written, RUN_LEN - written);
+    h->clean = h->clean && all_untouched(run + written, RUN_LEN - written)
+        && all_untouched((const uint8_t *)(h->row + TRABECULON_MOST_PAIRS),
+                         sizeof h->row - sizeof h->row[0] * TRABECULON_MOST_PAIRS);
     h->last = got;
 }
 
 static void finish(host *h) {
-    h->last = trabeculon_reader_end(h->last.reader);
+    h->last = trabeculon_reader_end(h->last.reader, h->row, ROW_LEN);
 }
 
-static void check_host(const char *name, const host *h, trabeculon_answer want) {
+static void check_line(const char *name, const host *h, trabeculon_answer want,
+                       const uint8_t *words) {
     report(name, "answer", same_answer(h->last.answer, want));
-    report(name, "line", h->line_len == 2 * want.words && memcmp(h->line, WORDS, h->line_len) == 0);
+    report(name, "line", h->line_len == 2 * want.words && memcmp(h->line, words, h->line_len) == 0);
     report(name, "runs untouched besides", h->clean);
 }
 
-/* The log from a place to another in pieces of one length, each with a run that
+static void check_host(const char *name, const host *h, trabeculon_answer want) {
+    check_line(name, h, want, WORDS);
+}
+
+/* A log from a place to another in pieces of one length, each with a run that
  * suffices. Before the end each answer is 0 and the bytes so far. */
-static int feed(host *h, size_t from, size_t to, size_t length) {
+static int feed_log(host *h, const uint8_t *log, size_t from, size_t to, size_t length) {
     int going = 1;
     for (size_t at = from; at < to; at += length) {
         size_t piece_len = to - at < length ? to - at : length;
-        take_piece(h, log_bytes + at, piece_len, 4 * (piece_len / 13 + 2));
+        take_piece(h, log + at, piece_len, 4 * (piece_len / 13 + 2));
         going = going && h->last.answer.number == 0 && h->last.answer.offset == at + piece_len;
     }
     return going;
+}
+
+static int feed(host *h, size_t from, size_t to, size_t length) {
+    return feed_log(h, log_bytes, from, to, length);
 }
 
 static void check_whole(const char *name, size_t length) {
@@ -223,7 +246,7 @@ static void check_2(const char *name, trabeculon_reader reader) {
     take_piece(&h, log_bytes, LOG_LEN, RUN_LEN);
     check_host(name, &h, answer(2, 0, 0, 0));
     report(name, "reader as given", same_reader(h.last.reader, reader));
-    trabeculon_piece_read ended = trabeculon_reader_end(reader);
+    trabeculon_piece_read ended = trabeculon_reader_end(reader, h.row, ROW_LEN);
     report(name, "the same of the end",
            same_answer(ended.answer, answer(2, 0, 0, 0)) && same_reader(ended.reader, reader));
 }
@@ -258,10 +281,24 @@ static void check_no_readers(void) {
     reader.machine = trabeculon_open(100, 50, 50, 0).machine;
     reader.machine.held = 0x7F;
     check_2("seven keys are held", reader);
-    reader.machine.held = UINT64_C(1) << 31;
+    reader.machine.held = UINT32_C(1) << 31;
     check_2("bit 31 is held", reader);
-    reader.machine.held = UINT64_C(1) << 32;
-    check_2("bit 32 is held", reader);
+
+    reader = trabeculon_reader_fresh();
+    reader.opened = 1;
+    check_2("opened without settings", reader);
+    reader.machine = trabeculon_open(100, 50, 50, 0).machine;
+    reader.opened = 2;
+    check_2("opened 2", reader);
+    reader.opened = 0;
+    reader.ts = 49;
+    reader.n = 1;
+    check_2("T_s below 50", reader);
+    reader.ts = 50;
+    reader.pairs = 65;
+    check_2("65 pairs", reader);
+    reader.pairs = 1;
+    check_2("a row that is no list", reader);
 
     reader = trabeculon_reader_fresh();
     reader.told = 1;
@@ -299,21 +336,120 @@ static void check_stray_bits(void) {
     check_host("stray bits", &h, answer(0, 4, LOG_LEN, 0));
 }
 
-static int read_file(const char *path) {
-    FILE *file = fopen(path, "rb");
-    if (file == NULL) {
-        return 0;
+/* ---- A list of pairs ---- */
+
+/* However the log is cut, two letters are a chord, and a millisecond later they are not. */
+static void check_list(void) {
+    int good = 1;
+    for (size_t length = 1; length <= PAIR_LEN; length++) {
+        host h = begin(), late = begin();
+        good = good && feed_log(&h, pair_bytes, 0, PAIR_LEN, length) && h.clean;
+        good = good && feed_log(&late, late_bytes, 0, PAIR_LEN, length) && late.clean;
+        finish(&h);
+        finish(&late);
+        good = good && same_answer(h.last.answer, answer(0, 1, PAIR_LEN, 0))
+            && memcmp(h.line, PAIR_WORDS, sizeof PAIR_WORDS) == 0
+            && same_answer(late.last.answer, answer(0, 2, PAIR_LEN, 0))
+            && memcmp(late.line, LATE_WORDS, sizeof LATE_WORDS) == 0;
     }
-    size_t length = fread(log_bytes, 1, LOG_LEN, file);
-    int whole = length == LOG_LEN && fgetc(file) == EOF;
-    fclose(file);
+    report("a list of pairs", "the same words in pieces of every length", good);
+
+    /* Behind the settings a list may come; behind it its pair stands in the row. */
+    host h = begin();
+    feed_log(&h, pair_bytes, 0, LIST_AT, LIST_AT);
+    report("behind the settings", "opened", h.last.reader.opened == 1);
+    feed_log(&h, pair_bytes, LIST_AT, LIST_END, 3);
+    report("behind the list", "its numbers",
+           h.last.reader.opened == 0 && h.last.reader.pairs == 1 && h.last.reader.ts == 100
+               && h.last.reader.n == 50 && h.row[0] == 0x1518308E);
+
+    /* Two letters wait. */
+    feed_log(&h, pair_bytes, LIST_END, 44, 13);
+    report("two letters", "both wait",
+           h.last.answer.waiting == 2 && h.last.reader.machine.state == TRABECULON_S7);
+
+    /* Saved in the middle of the list, the row with the reader, and gone on with. */
+    for (size_t cut = LIST_AT; cut <= LIST_END; cut++) {
+        host first = begin(), other = begin();
+        feed_log(&first, pair_bytes, 0, cut, 1);
+        other.last.reader = first.last.reader;
+        memcpy(other.row, first.row, sizeof other.row);
+        feed_log(&other, pair_bytes, cut, PAIR_LEN, 5);
+        finish(&other);
+        good = good && same_answer(other.last.answer, answer(0, 1, PAIR_LEN, 0));
+    }
+    report("saved within the list", "gone on with", good);
+
+    /* Another row: what waits is no pair of it, so that is no reader. */
+    trabeculon_reader reader = h.last.reader;
+    h.row[0] = 0x15163042;
+    feed_log(&h, pair_bytes, 44, PAIR_LEN, PAIR_LEN);
+    report("another row", "refused 2",
+           h.last.answer.number == TRABECULON_NOT_WELL_FORMED
+               && same_reader(h.last.reader, reader));
+}
+
+static void check_list_refused(void) {
+    uint8_t bytes[PAIR_LEN];
+    memcpy(bytes, pair_bytes, PAIR_LEN);
+
+    /* A key with itself: told with the list's last byte. */
+    bytes[15] = bytes[14];
+    host h = begin();
+    feed_log(&h, bytes, 0, LIST_END - 1, 5);
+    take_piece(&h, bytes + LIST_END - 1, 1, RUN_LEN);
+    check_line("a key with itself", &h, answer(12, 0, LIST_AT, 0), WORDS);
+    check_kept("a key with itself, after it", h);
+
+    /* A length that is not 3 + 4n. */
+    memcpy(bytes, pair_bytes, PAIR_LEN);
+    bytes[10] = 6;
+    h = begin();
+    take_piece(&h, bytes, PAIR_LEN, RUN_LEN);
+    check_line("a list of another length", &h, answer(7, 0, LIST_AT, 0), WORDS);
+
+    /* A list behind an event. */
+    h = begin();
+    take_piece(&h, log_bytes, 21, RUN_LEN);
+    take_piece(&h, pair_bytes + LIST_AT, LIST_END - LIST_AT, RUN_LEN);
+    check_line("a list behind an event", &h, answer(7, 0, 21, 1), WORDS);
+}
+
+/* A row that is too short, whatever the reader. */
+static void check_short_row(void) {
+    host h = begin();
+    uint8_t run[RUN_LEN];
+    memset(run, UNTOUCHED, sizeof run);
+    for (size_t length = 0; length < TRABECULON_MOST_PAIRS; length++) {
+        trabeculon_reader reader = h.last.reader;
+        trabeculon_piece_read got =
+            trabeculon_reader_piece(reader, h.row, length, log_bytes, LOG_LEN, run, RUN_LEN);
+        trabeculon_piece_read end = trabeculon_reader_end(reader, h.row, length);
+        h.clean = h.clean && same_answer(got.answer, answer(2, 0, 0, 0))
+            && same_answer(end.answer, got.answer) && same_reader(got.reader, reader)
+            && same_reader(end.reader, reader) && all_untouched(run, RUN_LEN)
+            && all_untouched((const uint8_t *)h.row, sizeof h.row);
+    }
+    report("a row of fewer than 64 numbers", "refused 2, nothing written", h.clean);
+}
+
+static int read_file(const char *path, uint8_t *bytes, size_t length) {
+    FILE *file = fopen(path, "rb");
+    int whole = 0;
+    if (file != NULL) {
+        whole = fread(bytes, 1, length, file) == length && fgetc(file) == EOF;
+        fclose(file);
+    }
+    if (!whole) {
+        fprintf(stderr, "%s cannot be read, or has another length\n", path);
+    }
     return whole;
 }
 
-int main(int argc, char **argv) {
-    const char *path = argc > 1 ? argv[1] : "examples/saigai.log";
-    if (!read_file(path)) {
-        fprintf(stderr, "%s cannot be read, or is not the log of document 01\n", path);
+int main(void) {
+    if (!read_file("examples/saigai.log", log_bytes, LOG_LEN)
+        || !read_file("examples/pair.log", pair_bytes, PAIR_LEN)
+        || !read_file("examples/pair-late.log", late_bytes, PAIR_LEN)) {
         return 2;
     }
     check_fresh();
@@ -326,6 +462,9 @@ int main(int argc, char **argv) {
     check_refusals();
     check_no_readers();
     check_stray_bits();
+    check_list();
+    check_list_refused();
+    check_short_row();
     printf("%d failed\n", failures);
     return failures == 0 ? 0 : 1;
 }

@@ -43,7 +43,7 @@ static uint8_t j, l, solo;
 static trabeculon_machine machine;
 static uint8_t kind, key;
 static trabeculon_stamp stamp;
-static uint32_t pairs[64];
+static uint32_t pairs[TRABECULON_MOST_PAIRS];
 static size_t pairs_len;
 static uint16_t ts;
 static uint8_t n;
@@ -58,6 +58,7 @@ static trabeculon_opened opened;
 static trabeculon_stepped stepped;
 static trabeculon_asked asked;
 static trabeculon_reader reader;
+static uint32_t row[TRABECULON_MOST_PAIRS];
 static trabeculon_piece_read piece_read;
 static const uint8_t *piece;
 static size_t piece_len;
@@ -164,9 +165,12 @@ static void call_distance(void) {
 }
 static void call_reader_fresh(void) { reader = trabeculon_reader_fresh(); }
 static void call_reader_piece(void) {
-    piece_read = trabeculon_reader_piece(reader, piece, piece_len, out, sizeof out);
+    piece_read = trabeculon_reader_piece(reader, row, TRABECULON_MOST_PAIRS, piece, piece_len, out,
+                                         sizeof out);
 }
-static void call_reader_end(void) { piece_read = trabeculon_reader_end(reader); }
+static void call_reader_end(void) {
+    piece_read = trabeculon_reader_end(reader, row, TRABECULON_MOST_PAIRS);
+}
 
 static size_t depth_of(void (*call)(void)) {
     memset(stack, PATTERN, STACK_SIZE);
