@@ -8,9 +8,9 @@
 //! random readers, well formed or not. Logs: a fixed set of whole ones, a quarter of
 //! COUNT random ones, both once more with their stamps moved (8/12), and a fixed set
 //! damaged at every place. Each is cut at random, into pieces of any length, with runs
-//! that are too short now and then. The whole ones and the short random ones are cut at
-//! every place too; of the damaged ones some are, and each at one place, the next one at
-//! the next. After every piece and at the end the library's reader of whole logs must
+//! that are too short now and then, of the damaged ones one in four. The whole ones and
+//! the short random ones are cut at every place too; of the damaged ones some are, and
+//! each at one place, the next one at the next. After every piece and at the end the library's reader of whole logs must
 //! say the same, until an 8; calls after a refusal and after the end are tried; and a
 //! moved log has the answers and the words of the log itself in the same pieces. Exit 0:
 //! all equal. Exit 1: a mismatch, printed. Exit 2: wrong arguments.
@@ -53,6 +53,8 @@ const CUTS: usize = 100;
 /// One in so many of the damaged logs is cut at every place, of the short ones more.
 const LOGS_FOR_EVERY_CUT: usize = 500;
 const SHORT_LOGS_FOR_EVERY_CUT: usize = 20;
+/// And one in so many at random.
+const LOGS_FOR_A_RANDOM_CUT: usize = 4;
 /// A log's beginnings are read whole after each piece up to this length.
 const OFTEN_READ: usize = 1_500;
 /// So many pieces of a log are given once its answer is for good.
@@ -395,7 +397,10 @@ fn compare_damaged_logs(arguments: &Arguments) -> Result<(), String> {
         // The next log at the next place.
         let cut = index % (log.len() + 1);
         compared.log(&log, &[cut, log.len() - cut], Runs::Enough)?;
-        compared.random_cut(&log, Runs::Enough)
+        match index % LOGS_FOR_A_RANDOM_CUT {
+            0 => compared.random_cut(&log, Runs::Enough),
+            _ => Ok(()),
+        }
     })?;
     compared.print("of logs damaged at every place");
     Ok(())

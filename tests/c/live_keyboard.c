@@ -3,9 +3,9 @@
  * 01's P1, P4 and P9, request 4/12's keystrokes (slow), a letter that is held (7/12)
  * and two letters as a chord (9/12) event by event, with a screen on which a backspace
  * takes the last sign back, and the distance to the deadline after each event. Then
- * every refusal, keys that are held, and lists that are refused. Checks every number of every answer. Prints what was sent, a
- * backspace as <-, and the screen after each event, and one line per check; exits 1
- * if one failed.
+ * every refusal, keys that are held, and lists that are refused. Checks every number
+ * of every answer. Prints what was sent, a backspace as <-, and the screen after each
+ * event, and one line per check; exits 1 if one failed.
  */
 #include "trabeculon.h"
 
