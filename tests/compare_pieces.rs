@@ -99,7 +99,7 @@ fn wrong_named(name: &str) -> Option<Wrong> {
 
 fn compare_all(arguments: &Arguments) -> Result<(), String> {
     let (library, model) = (face::reader_fresh(), fresh_numbers());
-    if library.lending() != model.lending() {
+    if library != model {
         return Err(format!("fresh readers differ\nlibrary {library:?}\nmodel   {model:?}"));
     }
     // Single calls first: they show a wrong rule soonest. The damaged logs take longest.

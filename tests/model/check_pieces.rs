@@ -161,12 +161,12 @@ fn check_limit() -> Result<(), String> {
 
 fn check_numbers() -> Result<(), String> {
     let fresh = fresh_numbers();
-    expect("fresh", fresh, FlatReader::default().lending())?;
+    expect("fresh", fresh, FlatReader::default())?;
     let log = log_of((100, 50, 50, 0), &keystrokes("21@7 21up@50")?);
     let opened = Flat { t: 100, j: 50, l: 50, state: 1, ..Flat::default() };
     let waiting = Flat { state: 2, key: 21, m: at(7), last: at(7), held: bit(21), ..opened };
     let ended = Flat { last: at(50), ..opened };
-    let begun = FlatReader { machine: waiting, offset: 21, ..fresh };
+    let begun = FlatReader { machine: waiting, offset: 21, ts: 50, n: 1, ..fresh };
     let after = [
         (0, fresh),
         (1, FlatReader { count: 1, header: 1, ..fresh }),
@@ -178,7 +178,7 @@ fn check_numbers() -> Result<(), String> {
         (21, begun),
         (26, FlatReader { count: 5, header: 0x02_000a, front: 0x0215, ..begun }),
         (33, FlatReader { count: 12, header: 0x02_000a, front: 0x0215, ..begun }),
-        (34, FlatReader { machine: ended, offset: 34, words: 1, ..fresh }),
+        (34, FlatReader { machine: ended, offset: 34, words: 1, ..begun }),
     ];
     for (length, right) in after {
         let mut kept = Kept::from(fresh);

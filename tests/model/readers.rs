@@ -271,11 +271,12 @@ const FRESH: FlatReader = FlatReader {
     told: 0,
     number: 0,
     pairs: 0,
-    ts: 50,
-    n: 1,
+    ts: 0,
+    n: 0,
     opened: 0,
 };
-const BETWEEN: FlatReader = FlatReader { machine: WAITING, offset: 1_021, words: 157, ..FRESH };
+const BETWEEN: FlatReader =
+    FlatReader { machine: WAITING, offset: 1_021, words: 157, ts: 50, n: 1, ..FRESH };
 
 /// Between two records, within one at every part of it, after a refusal and after the
 /// end, near the longest log, and while six keys are held.
