@@ -71,6 +71,10 @@ extern "C" {
  */
 #define TRABECULON_MOST_PAIRS 64
 
+/* A pair as one number: two character keys, and the character that they give. */
+#define TRABECULON_PAIR(a, b, c) \
+    ((uint32_t)(a) << 24 | (uint32_t)(b) << 16 | (uint32_t)(c))
+
 /*
  * The numbers given back: 0, and the refusals. Each function gives some of
  * them, in an order that is said there.
@@ -276,16 +280,19 @@ trabeculon_drill trabeculon_write_drill(uint16_t t, uint8_t j, uint8_t l,
  *
  * The list of pairs (request 9/12) is lent with every call and not kept: two
  * character keys pressed together give a third character. A pair is one number
- * of 32 bits, the four bytes of a log's record, high byte first: key, key,
- * character (2 bytes). Up to 64 pairs, in any order, and in a pair the keys in
- * any order; no pair twice, no key with itself, keys below 31, the character
- * U+0020 to U+FFFF and no surrogate; ts, T_s in milliseconds, 50 to 1,000; n, N
- * in percent, 1 to 99. Anything else is refused 12, before all other numbers.
- * A host without pairs lends a list of length 0, with any ts and n in range,
- * and all is as if there were no pairs. With no pairs the pointer is not read,
- * but it must not be null. What is said below of calls one after another has
- * one list, ts and n in all of them. With another list, two letters that wait
- * and are no pair of it are no well-formed machine: 2.
+ * of 32 bits in the host's own byte order, made by TRABECULON_PAIR: the first
+ * key in bits 24 to 31, the second in bits 16 to 23, the character below. Up to
+ * 64 pairs, in any order, and in a pair the keys in any order; no pair twice,
+ * no key with itself, keys below 31, the character U+0020 to U+FFFF and no
+ * surrogate; ts, T_s in milliseconds, 50 to 1,000; n, N in percent, 1 to 99.
+ * Anything else is refused 12, before all other numbers. The caller lends
+ * pairs_len readable numbers at pairs, so many pairs, aligned as a uint32_t is;
+ * the pointer is not null even if there are none. A host without pairs lends a
+ * list of length 0, with any ts and n in range, and all is as if there were no
+ * pairs. What is said here of calls one after another has one list, ts and n in
+ * all of them. To change them wait until state is not 7 or 8: there, with a
+ * list in which the two letters that wait are no pair, the machine is not well
+ * formed, and every call with it is refused 2 until the old list is lent again.
  *
  * All stamps are of the keyboard's own clock, never of the host's; a host's
  * time is no trabeculon_stamp. The host keeps the machine. Nothing is kept here
@@ -304,7 +311,11 @@ trabeculon_drill trabeculon_write_drill(uint16_t t, uint8_t j, uint8_t l,
  * keyboard/specs/HostScreen.antt); that ticks do no harm, and that a backspace
  * never takes a committed sign (Demand3, rules/specs/Demand3.antt); that only
  * differences of stamps count (Keyboard-moved,
- * keyboard/specs/MovedKeyboard.antt).
+ * keyboard/specs/MovedKeyboard.antt). Of the list: when it is accepted
+ * (GoodExactly, rules/specs/PairFacts.antt), that the order of a pair's keys
+ * does not matter (either-order there), that every pair that is accepted has
+ * such a number (CanBeLent, pairs/specs/LentFacts.antt), and that all is as
+ * before where there are no pairs (As-before, rules/specs/Before.antt).
  */
 
 /*
@@ -360,10 +371,10 @@ trabeculon_drill trabeculon_write_drill(uint16_t t, uint8_t j, uint8_t l,
  * KeyboardFacts, keyboard/specs/KeyboardFacts.antt); held is a set of keys, and
  * its ones are counted as keys (HeldFacts and CountsKeys,
  * rules/specs/HeldFacts.antt); after any events from a fresh machine on a key
- * is held as its accepted downs and ups say, M is held, and at most 6 are
- * (HeldInSequences, rules/specs/HeldRules.antt). Which bit is whose is said by
- * the definitions is-held (rules/specs/Held.antt) and flat
- * (flat/specs/Fields.antt). Tested: the 56 bytes (below, and
+ * is held as its accepted downs and ups say, M and K are held, M in state 8
+ * apart, and at most 6 are (HeldInSequences, rules/specs/HeldRules.antt). Which
+ * bit and which field is whose is said by the definitions is-held
+ * (rules/specs/Held.antt) and flat (flat/specs/Fields.antt). Tested: the 56 bytes (below, and
  * tests/c/live_keyboard.c).
  */
 typedef struct {
@@ -454,8 +465,9 @@ typedef struct {
  *
  * If the machine's deadline is at or before the stamp, what is due is done
  * first, and then the event acts. Stepping through the events that
- * trabeculon_read_log accepts of a log commits the words that it writes, given
- * room for them all.
+ * trabeculon_read_log accepts of a log, with the log's own list, T_s and N lent
+ * (no pairs where it has none), commits the words that it writes, given room
+ * for them all.
  *
  * A character key is held from its down to its up, and nothing else lets go of
  * it, a function key neither. A down of a key that is held already is a repeat
@@ -472,9 +484,10 @@ typedef struct {
  * held (HeldAfterwards, both in rules/specs/HeldRules.antt); that the numbers
  * say that number and all that is sent and committed (number-back,
  * sendings-back and words-back in HostFacts, keyboard/specs/HostScreen.antt);
- * at most 2 items and 4 sendings (StepSizes, rules/specs/StepFacts.antt). Of
- * the words of a log: words-are in LogSequence (keylog/specs/LogSequence.antt)
- * and line-is in HostFacts both speak of the line of the same events.
+ * at most 2 items and 4 sendings, 2 backspaces and 3 signs (StepSizes and
+ * StepSendable, rules/specs/StepFacts.antt). Of the words of a log: words-are
+ * in LogSequence (keylog/specs/LogSequence.antt) and line-is in HostFacts both
+ * speak of the line of the same events with the same list.
  */
 trabeculon_stepped trabeculon_step(trabeculon_machine machine,
                                    const uint32_t *pairs, size_t pairs_len,
