@@ -71,7 +71,7 @@ extern "C" {
  */
 #define TRABECULON_MOST_PAIRS 64
 
-/* A pair as one number: two character keys, and the character that they give. */
+/* A pair as one number: two character keys, and their character. */
 #define TRABECULON_PAIR(a, b, c) \
     ((uint32_t)(a) << 24 | (uint32_t)(b) << 16 | (uint32_t)(c))
 
