@@ -374,8 +374,8 @@ trabeculon_drill trabeculon_write_drill(uint16_t t, uint8_t j, uint8_t l,
  * is held as its accepted downs and ups say, M and K are held, M in state 8
  * apart, and at most 6 are (HeldInSequences, rules/specs/HeldRules.antt). Which
  * bit and which field is whose is said by the definitions is-held
- * (rules/specs/Held.antt) and flat (flat/specs/Fields.antt). Tested: the 56 bytes (below, and
- * tests/c/live_keyboard.c).
+ * (rules/specs/Held.antt) and flat (flat/specs/Fields.antt). Tested: the 56
+ * bytes (below, and tests/c/live_keyboard.c).
  */
 typedef struct {
     trabeculon_stamp last;
