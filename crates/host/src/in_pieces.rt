@@ -1,5 +1,5 @@
-// A log that arrives in pieces, for the console's C host. The reader goes in and comes out as numbers (crate pieces), and nothing is kept
-// here.
+// A log that arrives in pieces, for the console's C host. The reader goes in and comes out as numbers (crate pieces), a log's list of
+// pairs stands in a run that the host lends with it, and nothing is kept here.
 use crate::Answer;
 use pieces::FedNumbers;
 use pieces::FlatReader;
@@ -43,25 +43,30 @@ pub extern "C" fn trabeculon_reader_fresh() -> FlatReader
         tail: 0,
         told: 0,
         number: 0,
+        pairs: 0,
+        ts: 0,
+        n: 0,
+        opened: 0,
     }
 }
 
-// A piece of a log read into a run of bytes.
+// A piece of a log read into a run of bytes. The list's run, of 64 numbers or more, is lent with each call as the one before left it.
 #[no_mangle]
 pub extern "C" fn trabeculon_reader_piece(
     reader: FlatReader,
+    list: &mut [u32],
     piece: &[u8],
     out: &mut [u8],
 ) -> PieceRead
-    ensures { λ r. ⌜ GivesPiece reader (now (piece .entry)) (now (out .entry)) (accepted reader) r (now (out .exit)) ⌝ }
+    ensures { λ r. ⌜ GivesPiece reader (now (list .entry)) (now (piece .entry)) (now (out .entry)) (accepted (now (list .entry)) reader) r (now (list .exit)) (now (out .exit)) ⌝ }
 {
-    handed_back(pieces::feed_numbers(reader, piece, out))
+    handed_back(pieces::feed_numbers(reader, list, piece, out))
 }
 
 // The log has ended.
 #[no_mangle]
-pub extern "C" fn trabeculon_reader_end(reader: FlatReader) -> PieceRead
-    ensures { λ r. ⌜ GivesEnd reader (accepted reader) r ⌝ }
+pub extern "C" fn trabeculon_reader_end(reader: FlatReader, list: &[u32]) -> PieceRead
+    ensures { λ r. ⌜ GivesEnd reader (now (list .entry)) (accepted (now (list .entry)) reader) r ⌝ }
 {
-    handed_back(pieces::end_numbers(reader))
+    handed_back(pieces::end_numbers(reader, list))
 }

@@ -14,5 +14,5 @@ trabeculon-reader-piece-spec =
     (λ c.
     let at-feed = c .before .before .before in
     let entry = at-feed .before .before .before .before in
-    piece-given (entry .args .reader) _ _ (c .handed-back .ensures .0) (c .handed-back .ensures .1) (entry .args .piece .now) _ _
+    piece-given (entry .args .reader) (entry .args .list .now) _ _ (c .handed-back .ensures .0) (c .handed-back .ensures .1) (entry .args .piece .now) _ _ _
     (at-feed .feed-numbers .ensures)))
