@@ -11,5 +11,5 @@ trabeculon-reader-end-spec =
     (λ c κs. search needs)
     (λ c κs. search needs)
     (λ c.
-    end-given (c .before .before .args .reader) (c .before .before .args .list .now) _ _ (c .handed-back .ensures .0) (c .handed-back .ensures .1)
+    end-given (c .before .before .before .args .reader) (c .before .before .before .args .list .now) _ _ (c .handed-back .ensures .0) (c .handed-back .ensures .1)
     (c .before .end-numbers .ensures)))

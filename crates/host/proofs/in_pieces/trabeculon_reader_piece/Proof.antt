@@ -10,9 +10,11 @@ trabeculon-reader-piece-spec =
     (tie.spec
     (λ c κs. search needs)
     (λ c κs. search needs)
-    (λ c. c .before .before .before .feed-numbers .kept .1 .1 .0)
+    (λ c. c .before .before .before .before .before .feed-numbers .kept .1 .0)
+    (λ c. c .before .before .before .before .before .feed-numbers .kept .1 .1 .1 .0)
     (λ c.
-    let at-feed = c .before .before .before in
-    let entry = at-feed .before .before .before .before in
-    piece-given (entry .args .reader) (entry .args .list .now) _ _ (c .handed-back .ensures .0) (c .handed-back .ensures .1) (entry .args .piece .now) _ _ _
+    let at-feed = c .before .before .before .before .before in
+    let entry = at-feed .before .before .before .before .before .before in
+    piece-given (entry .args .reader) (entry .args .list .now) _ _ (c .handed-back .ensures .0) (c .handed-back .ensures .1)
+    (entry .args .piece .now) _ _ _
     (at-feed .feed-numbers .ensures)))
