@@ -11,5 +11,6 @@ trabeculon-reader-end-spec =
     (λ c κs. search needs)
     (λ c κs. search needs)
     (λ c.
-    end-given (c .before .before .before .args .reader) (c .before .before .before .args .list .now) _ _ (c .handed-back .ensures .0) (c .handed-back .ensures .1)
+    let given = c .before .before .before .args in
+    end-given (given .reader) (given .list .now) _ _ (c .handed-back .ensures .0) (c .handed-back .ensures .1)
     (c .before .end-numbers .ensures)))
