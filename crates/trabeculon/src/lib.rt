@@ -18,7 +18,8 @@ ghost use Rattle.keylog.specs.Runs.{high-first, Reads};
 ghost use Rattle.writer.specs.Writes.{Writes};
 ghost use Rattle.host.specs.Face.{told};
 ghost use Rattle.host.specs.Drills.{drilled};
-ghost use Rattle.host.specs.InPieces.{fresh-numbers, accepted, GivesPiece, GivesEnd};
+ghost use Rattle.pieces.specs.Readers.{accepted};
+ghost use Rattle.host.specs.InPieces.{fresh-numbers, GivesPiece, GivesEnd};
 ghost use Rattle.keyboard.specs.Keyboard.{lent-of, event-of, open-numbers, step-numbers, distance-numbers};
 
 #[no_mangle]
@@ -52,19 +53,20 @@ pub extern "C" fn trabeculon_reader_fresh() -> FlatReader
 #[no_mangle]
 pub extern "C" fn trabeculon_reader_piece(
     reader: FlatReader,
+    list: &mut [u32],
     piece: &[u8],
     out: &mut [u8],
 ) -> PieceRead
-    ensures { λ r. ⌜ GivesPiece reader (now (piece .entry)) (now (out .entry)) (accepted reader) r (now (out .exit)) ⌝ }
+    ensures { λ r. ⌜ GivesPiece reader (now (list .entry)) (now (piece .entry)) (now (out .entry)) (accepted (now (list .entry)) reader) r (now (list .exit)) (now (out .exit)) ⌝ }
 {
-    host::trabeculon_reader_piece(reader, piece, out)
+    host::trabeculon_reader_piece(reader, list, piece, out)
 }
 
 #[no_mangle]
-pub extern "C" fn trabeculon_reader_end(reader: FlatReader) -> PieceRead
-    ensures { λ r. ⌜ GivesEnd reader (accepted reader) r ⌝ }
+pub extern "C" fn trabeculon_reader_end(reader: FlatReader, list: &[u32]) -> PieceRead
+    ensures { λ r. ⌜ GivesEnd reader (now (list .entry)) (accepted (now (list .entry)) reader) r ⌝ }
 {
-    host::trabeculon_reader_end(reader)
+    host::trabeculon_reader_end(reader, list)
 }
 
 #[no_mangle]
