@@ -84,9 +84,9 @@ end-eight r h = by-told (r .told) refl
     by-told : (f : Option ℕ) → r .told ≡ f
         → number-of
         (unless-told r f
-        (record { reader = tell r (if is-cut (r .machine) (r .pending) then 6 else 0) (r .offset); words = [] }) .reader .told)
+        (record { reader = tell r (if is-cut (r .desk) (r .pending) then 6 else 0) (r .offset); words = [] }) .reader .told)
         ≢ 8
-    by-told none e = both-ways (λ (k : ℕ). k ≢ 8) (is-cut (r .machine) (r .pending)) (λ z. omega arith) (λ z. omega arith)
+    by-told none e = both-ways (λ (k : ℕ). k ≢ 8) (is-cut (r .desk) (r .pending)) (λ z. omega arith) (λ z. omega arith)
     by-told (some k) e = λ z. h (e ∙ ap some (ap number-of (sym e) ∙ z))
 
 -- what follows the line at a reader that was told 9

@@ -1,5 +1,7 @@
 // What the program prints while a log arrives in pieces, as text in a lent run: a piece's words, and at the end what follows the line.
+// Another lent run is where the log's list of pairs lives.
 use keylog::LogAnswer;
+use pairs::PAIRS_MOST;
 use pieces::Reader;
 use text::Encoded;
 ghost use Prim.Native.Nat.{_+_, _≤_, _<_};
@@ -7,6 +9,7 @@ ghost use mathlib.Core.Path.{_≡_};
 ghost use lib.ListN.{length};
 ghost use Rattle.runs.specs.Filled.{Stored};
 ghost use Rattle.text.specs.Text as texts;
+ghost use Rattle.pieces.specs.Listed.{room};
 ghost use Rattle.pieces.specs.Views.{reader-of};
 ghost use Rattle.report.specs.Decimal.{decimal};
 ghost use Rattle.report.specs.Printed.{status, closing};
@@ -21,7 +24,8 @@ const WORD_ROOM: usize = 10084;
 
 // What a piece gave.
 pub enum Shown {
-    // The piece is longer than `BUFFER`, or the run is shorter than `TEXT_ROOM`: nothing was read, and nothing was written.
+    // The piece is longer than `BUFFER`, the list's run has fewer than 64 numbers, or the run is shorter than `TEXT_ROOM`: nothing was
+    // read, and nothing was written.
     Unread,
     // The reader after the piece, and how many bytes of text were written.
     Text { next: Reader, bytes: usize },
@@ -29,7 +33,7 @@ pub enum Shown {
 
 // What the end gave.
 pub enum Ending {
-    // The run is shorter than `TEXT_ROOM`, and nothing was written.
+    // The list's run has fewer than 64 numbers, or the run is shorter than `TEXT_ROOM`, and nothing was written.
     Full,
     // The text was written, in so many bytes; the number and the offset are those of the log.
     Text {
@@ -117,14 +121,15 @@ fn put_line(out: &mut [u8], words: &[u16]) -> usize
 }
 
 // A piece that fits the buffer, read where there is room for its text.
-fn put_piece(reader: Reader, piece: &[u8], out: &mut [u8]) -> Shown
+fn put_piece(reader: Reader, list: &mut [u32], piece: &[u8], out: &mut [u8]) -> Shown
     requires { ⌜ length (now piece) ≤ buffer ⌝ }
+    requires { ⌜ room ≤ length (now list) ⌝ }
     requires { ⌜ text-room ≤ length (now out) ⌝ }
-    ensures { λ r. ⌜ Shows (reader-of reader) (now (piece .entry)) (now (out .entry)) r (now (out .exit)) ⌝ }
+    ensures { λ r. ⌜ Shows (reader-of (now (list .entry)) reader) (now (piece .entry)) (now (list .entry)) (now (out .entry)) r (now (list .exit)) (now (out .exit)) ⌝ }
     ensures { λ r. ⌜ Shown-within (length (now (out .entry))) r ⌝ }
 {
     let mut words = word_buffer();
-    let fed = pieces::feed(reader, piece, &mut words);
+    let fed = pieces::feed(reader, list, piece, &mut words);
     let next = fed.reader;
     let n = next.words - reader.words;
     let bytes = put_line(out, &words[..n]);
@@ -135,37 +140,44 @@ fn put_piece(reader: Reader, piece: &[u8], out: &mut [u8]) -> Shown
 }
 
 // A piece of the log: the text that it brings, at the front of a run of at least `TEXT_ROOM` bytes.
-pub fn show_piece(reader: Reader, piece: &[u8], out: &mut [u8]) -> Shown
-    ensures { λ r. ⌜ Shows (reader-of reader) (now (piece .entry)) (now (out .entry)) r (now (out .exit)) ⌝ }
+pub fn show_piece(reader: Reader, list: &mut [u32], piece: &[u8], out: &mut [u8]) -> Shown
+    ensures { λ r. ⌜ Shows (reader-of (now (list .entry)) reader) (now (piece .entry)) (now (list .entry)) (now (out .entry)) r (now (list .exit)) (now (out .exit)) ⌝ }
     ensures { λ r. ⌜ Shown-within (length (now (out .entry))) r ⌝ }
 {
     if BUFFER < piece.len() {
         return Shown::Unread;
     }
+    if list.len() < PAIRS_MOST {
+        return Shown::Unread;
+    }
     if out.len() < TEXT_ROOM {
         return Shown::Unread;
     }
-    put_piece(reader, piece, out)
+    put_piece(reader, list, piece, out)
 }
 
 // The answer at the end.
-fn answer_at_end(reader: Reader) -> LogAnswer
-    ensures { λ r. ⌜ r ≡ last (reader-of reader) ⌝ }
+fn answer_at_end(reader: Reader, list: &[u32]) -> LogAnswer
+    requires { ⌜ room ≤ length (now list) ⌝ }
+    ensures { λ r. ⌜ r ≡ last (reader-of (now (list .entry)) reader) ⌝ }
     ensures { λ r. ⌜ (r .number < 100) × (r .waiting < 10) × (r .offset < 10_000_000_000_000) ⌝ }
 {
-    let fed = pieces::end_log(reader);
+    let fed = pieces::end_log(reader, list);
     fed.answer
 }
 
 // The log has ended: what follows the line, at the front of a run of at least `TEXT_ROOM` bytes.
-pub fn show_end(reader: Reader, out: &mut [u8]) -> Ending
-    ensures { λ r. ⌜ Closes (reader-of reader) (now (out .entry)) r (now (out .exit)) ⌝ }
+pub fn show_end(reader: Reader, list: &[u32], out: &mut [u8]) -> Ending
+    ensures { λ r. ⌜ Closes (reader-of (now (list .entry)) reader) (now (list .entry)) (now (out .entry)) r (now (out .exit)) ⌝ }
     ensures { λ r. ⌜ Ending-within (length (now (out .entry))) r ⌝ }
 {
+    if list.len() < PAIRS_MOST {
+        return Ending::Full;
+    }
     if out.len() < TEXT_ROOM {
         return Ending::Full;
     }
-    let answer = answer_at_end(reader);
+    let answer = answer_at_end(reader, list);
     let bytes = put_closing(out, answer);
     Ending::Text {
         bytes: bytes,

@@ -1,6 +1,6 @@
 -- `report::show_piece` meets its contract.
 use borrow.Author.Needs.{needs}
-use Rattle.report.proofs.Reporting.{too-long-piece, no-room}
+use Rattle.report.proofs.Reporting.{too-long-piece, short-list, no-room}
 use Rattle.report.proofs.show_piece.Statement.{statement}
 use Rattle.report.proofs.show_piece.Tie as tie
 
@@ -8,8 +8,10 @@ pub show-piece-spec : {M : Type 1} → statement M
 show-piece-spec =
     tie.close
     (tie.spec
-    (λ c. (too-long-piece _ _ _ (c .if1 .taken), tt))
-    (λ c. (no-room _ _ _ (c .if2 .taken), tt))
+    (λ c. (too-long-piece _ _ _ _ (c .if1 .taken), tt))
+    (λ c. (short-list _ _ _ _ (c .if2 .taken), tt))
+    (λ c. (no-room _ _ _ _ (c .if3 .taken), tt))
     (λ c κs. search needs)
-    (λ c. c .before .before .put-piece .kept .1 .1 .0)
-    (λ c. c .before .before .put-piece .ensures))
+    (λ c. c .before .before .before .before .put-piece .kept .1 .0)
+    (λ c. c .before .before .before .before .put-piece .kept .1 .1 .1 .0)
+    (λ c. c .before .before .before .before .put-piece .ensures))
