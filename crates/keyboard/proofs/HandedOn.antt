@@ -1,11 +1,15 @@
 -- What a C host leans on when it hands a keyboard's numbers from call to call.
 use native.Mathlib.Omega.{arith}
-use mathlib.Core.List.{List, map}
+use mathlib.Core.Bool.{true, _&&_, and-eq-true-iff}
+use mathlib.Core.List.{List, [], _∷_, map}
 use mathlib.Core.Logic.{_≢_}
 use mathlib.Core.Option.{Option, none, some}
-use mathlib.Core.Path.{_≡_, refl, sym, ap, _∙_}
-use Rattle.rules.specs.Numbers.{in-range}
-use Rattle.rules.specs.Pairs.{Lent, lent-good}
+use mathlib.Core.Path.{_≡_, refl, sym, ap, ap₂, _∙_}
+use lib.Dec.{leb}
+use lib.ListN.{length}
+use Rattle.rules.specs.Numbers.{in-range, within}
+use Rattle.rules.specs.Pairs.{Pair, Lent, pairs-most, T-s-least, T-s-most, N-least, N-most}
+use Rattle.rules.specs.Pairs.{none-twice, pair-good, each-good, lent-good}
 use Rattle.rules.specs.States.{fresh, Opening, opening}
 use Rattle.rules.specs.GivenBack.{Verdict, refused, accepted, judge, Answer, answer, step-with, step}
 use Rattle.rules.specs.Sequences.{after, state}
@@ -14,15 +18,39 @@ use Rattle.rules.specs.declared.Machine.{Machine}
 use Rattle.rules.specs.declared.Event.{Event}
 use Rattle.rules.proofs.Choices.{both-ways}
 use Rattle.rules.proofs.Formed.{stays-formed}
+use Rattle.pairs.specs.Lent.{pairs-in}
+use Rattle.pairs.specs.LentFacts.{word}
+use Rattle.pairs.proofs.Words.{can-be-lent}
 use Rattle.flat.specs.Fields.{flat, named, numbers-of}
 use Rattle.flat.specs.Formed.{names-formed}
 use Rattle.flat.specs.declared.Flat.{Flat}
 use Rattle.flat.proofs.RoundTrip.{loses-nothing, all-fit}
-use Rattle.keyboard.specs.Keyboard.{event-of, answered-numbers, refused-numbers, step-named, step-numbers}
+use Rattle.keyboard.specs.Keyboard.{event-of, lent-of, answered-numbers, refused-numbers, step-named, step-numbers}
 use Rattle.keyboard.specs.declared.OpenAnswer.{OpenAnswer}
 use Rattle.keyboard.specs.declared.StepAnswer.{StepAnswer}
 use Rattle.keyboard.specs.KeyboardFacts.{KeyboardCalls, no-more, call, KeyboardRun, last-numbers, answers}
 use Rattle.keyboard.specs.KeyboardFacts.{formed-numbers, KeyboardFacts}
+
+-- the numbers of good pairs are these pairs
+pairs-back : (l : List Pair) → each-good l ≡ true → pairs-in (map word l) ≡ l
+unfolding each-good
+pairs-back [] h = refl
+pairs-back (p ∷ l) h =
+    let (good, more) = and-eq-true-iff (pair-good p) (each-good l) .0 h in
+    ap₂ (λ (q : Pair) (qs : List Pair). q ∷ qs) (can-be-lent p .read-back good) (pairs-back l more)
+
+good-pairs : (g : Lent) → lent-good g ≡ true → each-good (g .pairs) ≡ true
+unfolding lent-good
+good-pairs g h =
+    let few = leb (length (g .pairs)) pairs-most in
+    let t-s = within T-s-least T-s-most (g .t-s) in
+    let upto = few && none-twice (g .pairs) in
+    let each = each-good (g .pairs) in
+    let (front, n) = and-eq-true-iff (upto && each && t-s) (within N-least N-most (g .n)) .0 h in
+    and-eq-true-iff upto each .0 (and-eq-true-iff (upto && each) t-s .0 front .0) .1
+
+lends : (g : Lent) → lent-good g ≡ true → lent-of (map word (g .pairs)) (g .t-s) (g .n) ≡ g
+lends g good = rw (pairs-back (g .pairs) (good-pairs g good))
 
 -- the numbers that opening gives: zeros, or a fresh machine's
 opens : (s : Settings) → named (numbers-of (opening s .machine)) ≡ opening s .machine
@@ -103,6 +131,7 @@ keeps-formed g f e = go (named f) refl
 pub keyboard-facts : (g : Lent) → KeyboardFacts g
 keyboard-facts g =
     record {
+      lends = lends g;
       opens = opens;
       steps-on = steps-on g;
       refuses = refuses g;

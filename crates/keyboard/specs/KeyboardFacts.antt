@@ -1,13 +1,13 @@
 -- What a C host leans on when it hands a keyboard's numbers from call to call (Keyboard.antt). The proofs are in
 -- proofs/HandedOn.antt.
 use Prim.Native.Nat.{ℕ}
-use mathlib.Core.Bool.{Bool}
+use mathlib.Core.Bool.{Bool, true}
 use mathlib.Core.List.{List, [], _∷_, map}
 use mathlib.Core.Logic.{_≢_}
 use mathlib.Core.Option.{some}
 use mathlib.Core.Path.{_≡_}
 use Rattle.rules.specs.Numbers.{settings-of}
-use Rattle.rules.specs.Pairs.{Lent}
+use Rattle.rules.specs.Pairs.{Lent, lent-good}
 use Rattle.rules.specs.States.{fresh, opening}
 use Rattle.rules.specs.GivenBack.{Answer, step}
 use Rattle.rules.specs.Sequences.{along, state}
@@ -15,12 +15,13 @@ use Rattle.rules.specs.declared.Stamp.{Stamp}
 use Rattle.rules.specs.declared.Settings.{Settings}
 use Rattle.rules.specs.declared.Machine.{Machine}
 use Rattle.rules.specs.declared.Event.{Event}
+use Rattle.pairs.specs.LentFacts.{word}
 use Rattle.flat.specs.Fields.{named}
 use Rattle.flat.specs.Formed.{names-formed}
 use Rattle.flat.specs.declared.Flat.{Flat}
 use Rattle.keyboard.specs.declared.OpenAnswer.{OpenAnswer}
 use Rattle.keyboard.specs.declared.StepAnswer.{StepAnswer}
-use Rattle.keyboard.specs.Keyboard.{event-of, open-numbers, answered-numbers, refused-numbers, step-numbers}
+use Rattle.keyboard.specs.Keyboard.{event-of, lent-of, open-numbers, answered-numbers, refused-numbers, step-numbers}
 
 -- Calls of `trabeculon_step`, each with the machine that the one before gave back and with one list, T_s and N lent to all: what each
 -- answers, by the contract of that function in its own words.
@@ -52,6 +53,8 @@ formed-numbers g f = names-formed g (named f)
 
 -- Of everything lent.
 pub record KeyboardFacts (g : Lent) : Type 0 where
+  -- Everything that is accepted can be lent by a host: each pair as its number, T_s and N as they are.
+  pub lends : lent-good g ≡ true → lent-of (map word (g .pairs)) (g .t-s) (g .n) ≡ g
   -- The numbers that opening gives name the machine that it opened, or none if the settings are refused.
   pub opens : (s : Settings) → named (open-numbers (opening s) .machine) ≡ opening s .machine
   -- The numbers after an event name the machine after it, so calls that hand them on are the steps of one machine.
