@@ -1,13 +1,14 @@
 -- The numbers of a step say all that it sends and commits, and the host's screen is the committed line and what is shown.
 use Prim.Native.Nat.{ℕ, zero, suc, _≤_}
 use native.Mathlib.Omega.{arith}
+use mathlib.Core.Bool.{true, false}
 use mathlib.Core.List.{List, [], _∷_, _++_, append-assoc, append-nil, map, foldl}
 use mathlib.Core.Option.{Option, none, some}
 use mathlib.Core.Path.{_≡_, refl, sym, ap, _∙_}
 use lib.IntN.{ℤ}
 use lib.ListN.{length, getD, take, replicate}
 use borrow.Author.Tests.{ne-eqb}
-use Rattle.rules.specs.Pairs.{Lent}
+use Rattle.rules.specs.Pairs.{Lent, lent-good}
 use Rattle.rules.specs.States.{fresh}
 use Rattle.rules.specs.ZeroDelay.{sign-unless-0, character, sign-of, signs, Sending, backspace, send}
 use Rattle.rules.specs.GivenBack.{step}
@@ -27,7 +28,7 @@ use Rattle.flat.specs.Fields.{no-machine, named}
 use Rattle.flat.specs.declared.Flat.{Flat}
 use Rattle.keyboard.specs.declared.StepAnswer.{StepAnswer}
 use Rattle.keyboard.specs.Keyboard.{word-of, words-of, answer-numbers, answered-numbers, step-numbers}
-use Rattle.keyboard.specs.Keyboard.{no-machine-number, told-numbers, distance-numbers}
+use Rattle.keyboard.specs.Keyboard.{told-numbers, distance-numbers}
 use Rattle.keyboard.specs.KeyboardFacts.{answers}
 use Rattle.keyboard.specs.HostScreen.{signs-sent, taken-back, shows, grows, sendings-read, HostFacts}
 use Rattle.keyboard.proofs.HandedOn.{keyboard-facts}
@@ -127,17 +128,23 @@ asked-back : (g : Lent) (f : Flat) (x : Machine) (now : Stamp) → named f ≡ s
 unfolding distance-numbers
 asked-back g f x now h = rw h (told-number (asking g x now .number) (asking g x now .distance))
 
-no-machine-refused : (g : Lent) (f : Flat) (e : Event) (now : Stamp) → named f ≡ none
-    → (step-numbers g f e .number ≡ no-machine-number g) × (distance-numbers g f now .number ≡ no-machine-number g)
+no-machine-12 : (g : Lent) (f : Flat) (e : Event) (now : Stamp) → named f ≡ none → lent-good g ≡ false
+    → (step-numbers g f e .number ≡ 12) × (distance-numbers g f now .number ≡ 12)
 unfolding step-numbers distance-numbers
-no-machine-refused g f e now h = (rw h, rw h)
+no-machine-12 g f e now h bad = (rw (h, bad), rw (h, bad))
+
+no-machine-2 : (g : Lent) (f : Flat) (e : Event) (now : Stamp) → named f ≡ none → lent-good g ≡ true
+    → (step-numbers g f e .number ≡ 2) × (distance-numbers g f now .number ≡ 2)
+unfolding step-numbers distance-numbers
+no-machine-2 g f e now h good = (rw (h, good), rw (h, good))
 
 pub host-facts : (g : Lent) → HostFacts g
 host-facts g =
     record {
       number-back = number-back g;
       asked-back = asked-back g;
-      no-machine-refused = no-machine-refused g;
+      no-machine-12 = no-machine-12 g;
+      no-machine-2 = no-machine-2 g;
       sendings-back = sendings-back g;
       words-back = λ x e. words-back (step g x e .items) (step-sizes g x e .at-most-2-items);
       line-is = λ {s} {first} {es} run. ap (foldl grows []) (keyboard-facts g .runs run) ∙ grows-all g [] (fresh s) es;

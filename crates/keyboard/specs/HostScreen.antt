@@ -1,11 +1,12 @@
 -- What a C host reads off the numbers of a step, and what it makes of them by the rule of include/trabeculon.h: that nothing which
 -- a step sends or commits is lost on the way. The proofs are in proofs/HostScreen.antt.
 use Prim.Native.Nat.{ℕ, zero, suc}
+use mathlib.Core.Bool.{true, false}
 use mathlib.Core.List.{List, [], _∷_, _++_, map, foldl}
 use mathlib.Core.Option.{none, some}
 use mathlib.Core.Path.{_≡_}
 use lib.ListN.{take, replicate}
-use Rattle.rules.specs.Pairs.{Lent}
+use Rattle.rules.specs.Pairs.{Lent, lent-good}
 use Rattle.rules.specs.ZeroDelay.{sign-unless-0, shown, Sending, backspace, send}
 use Rattle.rules.specs.GivenBack.{step}
 use Rattle.rules.specs.Sequences.{without-last, state, line}
@@ -18,7 +19,7 @@ use Rattle.flat.specs.Fields.{named}
 use Rattle.flat.specs.declared.Flat.{Flat}
 use Rattle.keyboard.specs.declared.OpenAnswer.{OpenAnswer}
 use Rattle.keyboard.specs.declared.StepAnswer.{StepAnswer}
-use Rattle.keyboard.specs.Keyboard.{no-machine-number, word-of, answered-numbers, step-numbers, distance-numbers}
+use Rattle.keyboard.specs.Keyboard.{word-of, answered-numbers, step-numbers, distance-numbers}
 use Rattle.keyboard.specs.KeyboardFacts.{KeyboardRun}
 
 -- those of sent_first, sent_second and sent_third that are not 0
@@ -59,11 +60,14 @@ words-read r = take (r .items) (r .first ∷ r .second ∷ [])
 
 -- Of everything lent.
 pub record HostFacts (g : Lent) : Type 0 where
-  -- Of numbers that name a machine: the number of an event, and of asking, is document 01's; all others are refused 2, or 12 first.
+  -- Of numbers that name a machine: the number of an event, and of asking, is document 01's.
   pub number-back : (f : Flat) (x : Machine) (e : Event) → named f ≡ some x → step-numbers g f e .number ≡ step g x e .number
   pub asked-back : (f : Flat) (x : Machine) (now : Stamp) → named f ≡ some x → distance-numbers g f now .number ≡ asking g x now .number
-  pub no-machine-refused : (f : Flat) (e : Event) (now : Stamp) → named f ≡ none
-      → (step-numbers g f e .number ≡ no-machine-number g) × (distance-numbers g f now .number ≡ no-machine-number g)
+  -- Of numbers that name none: refused 12 if what is lent is not accepted, else 2.
+  pub no-machine-12 : (f : Flat) (e : Event) (now : Stamp) → named f ≡ none → lent-good g ≡ false
+      → (step-numbers g f e .number ≡ 12) × (distance-numbers g f now .number ≡ 12)
+  pub no-machine-2 : (f : Flat) (e : Event) (now : Stamp) → named f ≡ none → lent-good g ≡ true
+      → (step-numbers g f e .number ≡ 2) × (distance-numbers g f now .number ≡ 2)
   -- Of every machine and event: the numbers say all that is sent, and the words of all items.
   pub sendings-back : (x : Machine) (e : Event) → sendings-read (answered-numbers (step g x e)) ≡ step g x e .sendings
   pub words-back : (x : Machine) (e : Event) → words-read (answered-numbers (step g x e)) ≡ map word-of (step g x e .items)
