@@ -8,8 +8,7 @@ use mathlib.Core.Path.{_≡_, refl, sym, ap, ap₂, _∙_}
 use lib.Dec.{leb}
 use lib.ListN.{length}
 use Rattle.rules.specs.Numbers.{in-range, within}
-use Rattle.rules.specs.Pairs.{Pair, Lent, pairs-most, T-s-least, T-s-most, N-least, N-most}
-use Rattle.rules.specs.Pairs.{none-twice, pair-good, each-good, lent-good}
+use Rattle.rules.specs.Pairs.{Pair, Lent, pairs-most, T-s-least, T-s-most, N-least, N-most, none-twice, pair-good, each-good, lent-good}
 use Rattle.rules.specs.States.{fresh, Opening, opening}
 use Rattle.rules.specs.GivenBack.{Verdict, refused, accepted, judge, Answer, answer, step-with, step}
 use Rattle.rules.specs.Sequences.{after, state}

@@ -27,8 +27,7 @@ use Rattle.preview.specs.Views.{backspaces-among, packed-sendings}
 use Rattle.flat.specs.Fields.{no-machine, named}
 use Rattle.flat.specs.declared.Flat.{Flat}
 use Rattle.keyboard.specs.declared.StepAnswer.{StepAnswer}
-use Rattle.keyboard.specs.Keyboard.{word-of, words-of, answer-numbers, answered-numbers, step-numbers}
-use Rattle.keyboard.specs.Keyboard.{told-numbers, distance-numbers}
+use Rattle.keyboard.specs.Keyboard.{word-of, words-of, answer-numbers, answered-numbers, step-numbers, told-numbers, distance-numbers}
 use Rattle.keyboard.specs.KeyboardFacts.{answers}
 use Rattle.keyboard.specs.HostScreen.{signs-sent, taken-back, shows, grows, sendings-read, HostFacts}
 use Rattle.keyboard.proofs.HandedOn.{keyboard-facts}
