@@ -28,6 +28,7 @@ use states::act;
 use states::in_s1;
 use states::late;
 use waits::before;
+// W: the longest wait where there are no pairs.
 pub use waits::longest_wait;
 use waits::lower_key;
 ghost use mathlib.Core.Path.{_≡_};
