@@ -21,7 +21,7 @@ use std::process::ExitCode;
 
 use trabeculon_model::arguments::{self, named};
 use trabeculon_model::generate::{base_logs, every_place, random_case, typed_log, Case};
-use trabeculon_model::log::Answer;
+use trabeculon_model::log::{Answer, SETTINGS_LENGTH};
 use trabeculon_model::model::SLIPS;
 use trabeculon_model::moved::{log_stamps, moved_log, one_move, MOVES};
 use trabeculon_model::pairs::MOST_PAIRS;
@@ -335,7 +335,9 @@ fn compare_whole_logs(arguments: &Arguments) -> Result<(), String> {
         compared.log(&log, &vec![1; log.len()], Runs::Enough)?;
         (0..CUTS).try_for_each(|_| compared.random_cut(&log, Runs::TooShort))?;
     }
-    for log in base_logs().take(1) {
+    // The first one, and the first that has a list.
+    let listed = base_logs().filter(|log| log.get(SETTINGS_LENGTH) == Some(&3));
+    for log in base_logs().take(1).chain(listed.take(1)) {
         compared.every_two_cuts(&log)?;
     }
     compared.print("of whole logs");
