@@ -1,2 +1,3 @@
 pub mod InPieces
+pub mod ListStays
 pub mod InPiecesFacts
