@@ -16,9 +16,11 @@ use report::BUFFER;
 use report::Ending;
 use report::Shown;
 use report::TEXT_ROOM;
-ghost use Prim.Native.Nat.{_≤_};
+ghost use Prim.Native.Nat.{ℕ, _≤_};
+ghost use mathlib.Core.List.{List};
 ghost use mathlib.Core.Path.{_≡_};
 ghost use lib.ListN.{length};
+ghost use Rattle.pieces.specs.Listed.{room};
 ghost use Rattle.pieces.specs.Views.{reader-of};
 ghost use Rattle.report.specs.Played.{buffer, text-room, played};
 ghost use Rattle.report.specs.HoweverPlayed.{Reached};
@@ -51,7 +53,7 @@ fn text_buffer() -> [u8; TEXT_ROOM]
 // Prints the text of a piece.
 fn print_text(shown: Shown, out: &[u8]) -> Turn
     requires { ⌜ Has-text (length (now out)) shown ⌝ }
-    ensures { λ r. ⌜ Leaves shown r ⌝ }
+    ensures { λ r. ⌜ ((list : List ℕ) → Leaves list shown r) ⌝ }
 {
     match shown {
         // There is room: `text_buffer`.
@@ -70,13 +72,14 @@ fn print_text(shown: Shown, out: &[u8]) -> Turn
     }
 }
 
-// Reads a piece and prints the text that it brings.
-fn play_piece(reader: Reader, piece: &[u8], out: &mut [u8]) -> Turn
+// Reads a piece and prints the text that it brings. The log's list of pairs lives in a run of its own.
+fn play_piece(reader: Reader, list: &mut [u32], piece: &[u8], out: &mut [u8]) -> Turn
     requires { ⌜ length (now piece) ≤ buffer ⌝ }
+    requires { ⌜ room ≤ length (now list) ⌝ }
     requires { ⌜ text-room ≤ length (now out) ⌝ }
-    ensures { λ r. ⌜ Turns (played (reader-of reader) (now (piece .entry)) .reader) r ⌝ }
+    ensures { λ r. ⌜ Turns (now (list .exit)) (played (reader-of (now (list .entry)) reader) (now (piece .entry)) .reader) r ⌝ }
 {
-    let shown = report::show_piece(reader, piece, out);
+    let shown = report::show_piece(reader, list, piece, out);
     print_text(shown, out)
 }
 
@@ -102,32 +105,34 @@ fn print_end(ending: Ending, out: &[u8])
 }
 
 // The log has ended, or was refused.
-fn finish(reader: Reader, out: &mut [u8])
-    requires { ⌜ Reached (reader-of reader) ⌝ }
+fn finish(reader: Reader, list: &[u32], out: &mut [u8])
+    requires { ⌜ Reached (reader-of (now list) reader) ⌝ }
+    requires { ⌜ room ≤ length (now list) ⌝ }
     requires { ⌜ text-room ≤ length (now out) ⌝ }
 {
-    let ending = report::show_end(reader, out);
+    let ending = report::show_end(reader, list, out);
     print_end(ending, out);
 }
 
 // Reads a log piece by piece to its end. It comes to one: each piece has a byte at least, and the reader counts them.
-fn play_log(log: &mut [u8], out: &mut [u8])
+fn play_log(log: &mut [u8], list: &mut [u32], out: &mut [u8])
     requires { ⌜ buffer ≡ length (now log) ⌝ }
+    requires { ⌜ room ≡ length (now list) ⌝ }
     requires { ⌜ text-room ≡ length (now out) ⌝ }
 {
     let mut reader = pieces::fresh();
     loop {
         match input::read_piece(log) {
-            Piece::Bytes(n) => match play_piece(reader, &log[..n], out) {
+            Piece::Bytes(n) => match play_piece(reader, list, &log[..n], out) {
                 Turn::More(next) => reader = next,
                 Turn::Refused(last) => {
-                    finish(last, out);
+                    finish(last, list, out);
                     return;
                 }
                 Turn::Failed => return,
             },
             Piece::End => {
-                finish(reader, out);
+                finish(reader, list, out);
                 return;
             }
             Piece::Failed => {
@@ -140,8 +145,9 @@ fn play_log(log: &mut [u8], out: &mut [u8])
 
 fn run() {
     let mut log = log_buffer();
+    let mut list = pieces::pair_buffer();
     let mut out = text_buffer();
-    play_log(&mut log, &mut out);
+    play_log(&mut log, &mut list, &mut out);
 }
 
 // Whether the one argument asks how to use the program.

@@ -26,12 +26,12 @@ fn meaning(number: u32) {
         6 => io::write_all(STDERR_FILENO, b"log empty, or header or body cut\n"),
         7 => io::write_all(
             STDERR_FILENO,
-            b"tag unknown, length wrong, settings missing first or met again, or a list of pairs not behind them\n",
+            b"tag unknown, length wrong, settings missing first or met again, or a list of pairs not straight after them\n",
         ),
         11 => io::write_all(STDERR_FILENO, b"press of a new key while 6 are held\n"),
         12 => io::write_all(
             STDERR_FILENO,
-            b"list of pairs with more than 64, one twice or of one key, or a key, character, T_s or N out of range\n",
+            b"list of pairs: T_s is 50 to 1000, N is 1 to 99, at most 64 pairs, none twice, of two keys 0 to 30 and a character\n",
         ),
         _ => io::write_all(STDERR_FILENO, b"refused\n"),
     }

@@ -11,12 +11,12 @@ slice-aggregate-write-all c =
     sym (length-take-le _ _ (rw (c .before .before .shown .given .1) at (c .before .before .before .before .before .pre)))
 
 returns : tie.Need-returns
-returns c = rw (c .before .before .before .before .before .before .shown .given .1, c .enum-told2 .given .1) (refl, refl)
+returns c = rw (c .before .before .before .before .before .before .shown .given .1, c .enum-told2 .given .1) (λ list. (refl, refl))
 
 returns-2 : tie.Need-returns-2
 returns-2 c =
     rw (c .before .before .before .before .before .before .shown .given .1, c .enum-told3 .given .1)
-    (refl, λ e. absurd (Option·none-ne-some _ (sym e)))
+    (λ list. (refl, λ e. absurd (Option·none-ne-some _ (sym e))))
 
 pub print-text-spec : {M : Type 1} → statement M
 print-text-spec =
@@ -32,5 +32,5 @@ print-text-spec =
     returns-2
     (λ c. search needs)
     (λ c κs. search needs)
-    (λ c. rw (c .enum-told .given .1) tt)
-    (λ c. rw (c .before .before .before .before .before .before .shown .given .1) tt))
+    (λ c list. rw (c .enum-told .given .1) tt)
+    (λ c list. rw (c .before .before .before .before .before .before .shown .given .1) tt))
