@@ -10,7 +10,7 @@
  * return. Behind "Proved:" stand the definitions and statements that carry what
  * is said above, with their files under crates/. docs/RULES.md has the rules in
  * words, and docs/ASSUMPTIONS.md what is believed and not proved: the compiler,
- * and that the caller lends what it says. A call needs less than 2 KiB of stack
+ * and that the caller lends what it says. A call needs less than 4 KiB of stack
  * (measured, tests/stack).
  *
  * Keys 0 to 4 are B01 to B05, 5 to 9 B06 to B10, 10 to 14 C01 to C05, 15 to 19
