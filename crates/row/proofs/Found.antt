@@ -1,14 +1,13 @@
 -- One keyboard of a row: what finding it says of the row, and what an event or an asking there comes to.
 use Prim.Native.Nat.{ℕ, zero, suc, _<_, _≤_, zero-le, suc-le-suc}
 use native.Mathlib.Nat.{not-suc-le-zero, le-of-suc-le-suc}
-use mathlib.Core.Bool.{true}
 use mathlib.Core.List.{List, [], _∷_}
 use mathlib.Core.Logic.{_≢_, inl, inr}
 use mathlib.Core.Option.{Option, none, some, Option·none-ne-some}
 use mathlib.Core.Path.{_≡_, refl, sym, ap, _∙_}
 use lib.Dec.{leb}
 use lib.ListN.{length, getD, getElem?, set, length-set}
-use borrow.Author.Tests.{leb-false, lt-leb}
+use borrow.Author.Tests.{leb-true, leb-false, le-leb, lt-leb}
 use Rattle.rules.specs.Choice.{if_then_else_}
 use Rattle.rules.specs.Pairs.{Lent}
 use Rattle.rules.specs.GivenBack.{step}
@@ -18,7 +17,7 @@ use Rattle.rules.specs.declared.Machine.{Machine}
 use Rattle.rules.specs.declared.Event.{Event}
 use Rattle.rules.proofs.Choices.{both-ways, by-test}
 use Rattle.row.specs.Row.{most-keyboards, keyboard, refused-13, answered-at, step-at, asking-at}
-use Rattle.row.specs.RowFacts.{NoKeyboard}
+use Rattle.row.specs.RowFacts.{NoKeyboard, Found}
 
 module _ {A : Type 0} where
   pub stands-at : (l : List A) (i : ℕ) (d : A) → i < length l → getElem? l i ≡ some (getD l i d)
@@ -55,57 +54,55 @@ module _ {A : Type 0} where
   set-as-is (x ∷ xs) (suc i) m h = ap (λ (l : List A). x ∷ l) (set-as-is xs i m h)
 
 module _ (row : List Machine) (k : ℕ) where
-  -- a keyboard that is found stands in the row, and the row is not above 16
-  pub found-in : (m : Machine) → keyboard row k ≡ some m → (leb (length row) most-keyboards ≡ true) × (getElem? row k ≡ some m)
+  -- the keyboard that is found
+  pub found-in : (m : Machine) → keyboard row k ≡ some m → Found row k m
   unfolding keyboard
   found-in m =
-      by-test (λ (o : Option Machine). o ≡ some m → (leb (length row) most-keyboards ≡ true) × (getElem? row k ≡ some m))
-      (leb (length row) most-keyboards)
-      (λ short h. (short, h))
+      by-test (λ (o : Option Machine). o ≡ some m → Found row k m) (leb (length row) most-keyboards)
+      (λ short h. record { not-above-16 = leb-true (length row) most-keyboards short; stands = h })
       (λ _ h. absurd (Option·none-ne-some m h))
 
-  pub in-short : leb (length row) most-keyboards ≡ true → keyboard row k ≡ getElem? row k
+  pub is-there : (m : Machine) → Found row k m → keyboard row k ≡ some m
   unfolding keyboard
-  in-short h = rw h
+  is-there m f = rw (le-leb (length row) most-keyboards (f .not-above-16)) (f .stands)
 
   -- none is found exactly where 13 is due
-  pub none-found : NoKeyboard row k → keyboard row k ≡ none
+  pub none-found : NoKeyboard (length row) k → keyboard row k ≡ none
   unfolding keyboard
   none-found (inl above) = rw (lt-leb _ _ above)
   none-found (inr past) =
       both-ways (λ (o : Option Machine). o ≡ none) (leb (length row) most-keyboards) (none-past row k past) refl
 
-  pub none-why : keyboard row k ≡ none → NoKeyboard row k
+  pub none-why : keyboard row k ≡ none → NoKeyboard (length row) k
   unfolding keyboard
   none-why =
-      by-test (λ (o : Option Machine). o ≡ none → NoKeyboard row k) (leb (length row) most-keyboards)
+      by-test (λ (o : Option Machine). o ≡ none → NoKeyboard (length row) k) (leb (length row) most-keyboards)
       (λ _ h. inr (past-if-none row k h))
       (λ above _. inl (leb-false _ _ above))
 
   -- an event at a keyboard that is found, and at one that is not
-  pub step-here : (g : Lent) (e : Event) (m : Machine) → keyboard row k ≡ some m → step-at g row k e ≡ answered-at row k (step g m e)
+  pub step-here : (g : Lent) (e : Event) (m : Machine) → Found row k m → step-at g row k e ≡ answered-at row k (step g m e)
   unfolding step-at
-  step-here g e m h = rw h
+  step-here g e m f = rw (is-there m f)
 
   pub step-nowhere : (g : Lent) (e : Event) → keyboard row k ≡ none → step-at g row k e ≡ refused-13 row
   unfolding step-at
   step-nowhere g e h = rw h
 
   -- an asking
-  pub asking-here : (g : Lent) (now : Stamp) (m : Machine) → keyboard row k ≡ some m → asking-at g row k now ≡ asking g m now
+  pub asking-here : (g : Lent) (now : Stamp) (m : Machine) → Found row k m → asking-at g row k now ≡ asking g m now
   unfolding asking-at
-  asking-here g now m h = rw h
+  asking-here g now m f = rw (is-there m f)
 
   pub asking-nowhere : (g : Lent) (now : Stamp) → keyboard row k ≡ none → asking-at g row k now ≡ not-answered 13
   unfolding asking-at
   asking-nowhere g now h = rw h
 
-  -- a keyboard's own state put in its place
-  pub put-own : (m a : Machine) → keyboard row k ≡ some m → keyboard (set row k a) k ≡ some a
-  unfolding keyboard
-  put-own m a h = let f = found-in m h in rw (length-set row k a, f .0) (set-same row k m a (f .1))
+  -- a keyboard's own state put in its place, and another's
+  pub put-own : (m a : Machine) → Found row k m → Found (set row k a) k a
+  put-own m a f =
+      record { not-above-16 = rw (length-set row k a) (f .not-above-16); stands = set-same row k m a (f .stands) }
 
-  -- another's
-  pub put-other : (j : ℕ) (a : Machine) → k ≢ j → keyboard (set row j a) k ≡ keyboard row k
-  unfolding keyboard
-  put-other j a h = rw (length-set row j a, set-other row j k a h)
+  pub put-other : (j : ℕ) (m a : Machine) → k ≢ j → Found row k m → Found (set row j a) k m
+  put-other j m a h f =
+      record { not-above-16 = rw (length-set row j a) (f .not-above-16); stands = set-other row j k a h ∙ f .stands }

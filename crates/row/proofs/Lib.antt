@@ -1,3 +1,5 @@
 pub mod Found
 pub mod Leaving
 pub mod Placed
+pub mod RowFacts
+pub mod RowRuns

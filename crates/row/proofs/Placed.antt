@@ -4,11 +4,11 @@ use native.Mathlib.Omega.{arith}
 use mathlib.Core.Bool.{Bool, true, false, and-eq-true-iff}
 use mathlib.Core.List.{List, []}
 use mathlib.Core.Logic.{inl, inr}
-use mathlib.Core.Option.{none, some}
+use mathlib.Core.Option.{none}
 use mathlib.Core.Path.{_≡_, refl, sym, _∙_, ap}
 use lib.Dec.{T, leb, ltb}
 use lib.ListN.{length, getD, set}
-use borrow.Author.Tests.{leb-true, leb-false, ltb-true, ltb-false, le-leb}
+use borrow.Author.Tests.{leb-true, leb-false, ltb-true, ltb-false}
 use Rattle.rules.specs.Numbers.{settings-of}
 use Rattle.rules.specs.Pairs.{Lent}
 use Rattle.rules.specs.States.{fresh}
@@ -18,12 +18,13 @@ use Rattle.rules.specs.declared.Stamp.{Stamp}
 use Rattle.rules.specs.declared.Machine.{Machine}
 use Rattle.rules.specs.declared.Event.{Event}
 use Rattle.row.specs.Row.{most-keyboards, keyboard, step-at, asking-at}
+use Rattle.row.specs.RowFacts.{Found}
 use Rattle.row.specs.Views.{is-keyboard, Tells, TellsAt, Advances, asked-at}
 use Rattle.row.specs.declared.Told.{Told}
 use Rattle.row.specs.declared.Advanced.{Advanced}
 use Rattle.row.specs.declared.AskedAt.{AskedAt}
 use Rattle.row.specs.declared.AskedAt.the-variants as asked-as
-use Rattle.row.proofs.Found.{stands-at, in-short, none-found, step-here, step-nowhere, asking-here, asking-nowhere}
+use Rattle.row.proofs.Found.{stands-at, none-found, step-here, step-nowhere, asking-here, asking-nowhere}
 
 holds : (t : Bool) → T t → t ≡ true
 holds true _ = refl
@@ -59,9 +60,9 @@ module _ (n k : ℕ) (t : T (is-keyboard n k)) where
   offset-fits = let s = short in let w = within in omega arith
 
 module _ (row : List Machine) (k : ℕ) where
-  pub is-found : T (is-keyboard (length row) k) → keyboard row k ≡ some (state-at row k)
+  pub is-found : T (is-keyboard (length row) k) → Found row k (state-at row k)
   is-found t =
-      in-short row k (le-leb (length row) 16 (short (length row) k t)) ∙ stands-at row k any-machine (within (length row) k t)
+      record { not-above-16 = short (length row) k t; stands = stands-at row k any-machine (within (length row) k t) }
 
   pub not-found : (T (is-keyboard (length row) k) → ⊥) → keyboard row k ≡ none
   unfolding is-keyboard

@@ -1,3 +1,4 @@
 pub mod Row
 pub mod Views
 pub mod RowFacts
+pub mod RowRuns
