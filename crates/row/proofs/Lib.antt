@@ -3,3 +3,4 @@ pub mod Leaving
 pub mod Placed
 pub mod RowFacts
 pub mod RowRuns
+pub mod RowCalls

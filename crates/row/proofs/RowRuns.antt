@@ -37,13 +37,13 @@ use Rattle.row.proofs.Found.{step-here, asking-here, put-own, put-other
 
 module _ (g : Lent) (k : ℕ) where
   -- an event of a sequence at the keyboard in question
-  found-own : (row : List Machine) (x : RowEvent) (m : Machine) → Found row k m → eqb (x .board) k ≡ true
+  pub found-own : (row : List Machine) (x : RowEvent) (m : Machine) → Found row k m → eqb (x .board) k ≡ true
       → Found (row-step g row x .row) k (step g m (x .event) .machine)
   found-own row x m f own =
       rw (eqb-true (x .board) k own, step-here row k g (x .event) m f) (put-own row k m (step g m (x .event) .machine) f)
 
   -- and at another
-  found-other : (row : List Machine) (x : RowEvent) (m : Machine) → Found row k m → eqb (x .board) k ≡ false → Found (row-step g row x .row) k m
+  pub found-other : (row : List Machine) (x : RowEvent) (m : Machine) → Found row k m → eqb (x .board) k ≡ false → Found (row-step g row x .row) k m
   unfolding step-at
   found-other row x m f other = go (keyboard row (x .board))
     where
@@ -52,7 +52,7 @@ module _ (g : Lent) (k : ℕ) where
       go (some n) = put-other row k (x .board) m (step g n (x .event) .machine) (λ e. eqb-false (x .board) k other (sym e)) f
 
   -- what is read off its event
-  read-here : {X : Type 0} (f : Machine → Event → Answer → List X) (row : List Machine) (x : RowEvent) (m : Machine) → Found row k m
+  pub read-here : {X : Type 0} (f : Machine → Event → Answer → List X) (row : List Machine) (x : RowEvent) (m : Machine) → Found row k m
       → eqb (x .board) k ≡ true
       → read-own f (getElem? row k) (x .event) (row-step g row x) (getElem? (row-step g row x .row) k) ≡ f m (x .event) (step g m (x .event))
   read-here f row x m h own =

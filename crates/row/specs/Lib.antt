@@ -2,3 +2,4 @@ pub mod Row
 pub mod Views
 pub mod RowFacts
 pub mod RowRuns
+pub mod RowCalls
