@@ -1,5 +1,6 @@
 pub mod Found
 pub mod Leaving
+pub mod Calling
 pub mod Placed
 pub mod RowFacts
 pub mod RowRuns

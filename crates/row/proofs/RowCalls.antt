@@ -3,36 +3,30 @@
 use Prim.Native.Nat.{ℕ}
 use mathlib.Core.Bool.{Bool, true, false}
 use mathlib.Core.List.{List, [], _∷_, _++_}
-use mathlib.Core.Option.{Option, some}
 use mathlib.Core.Path.{_≡_, refl, sym, ap, subst, _∙_}
 use lib.Dec.{eqb}
 use lib.ListN.{getElem?}
 use Rattle.rules.specs.Choice.{if_then_else_}
 use Rattle.rules.specs.Pairs.{Lent}
-use Rattle.rules.specs.States.{fresh, opening, opened}
+use Rattle.rules.specs.States.{fresh}
 use Rattle.rules.specs.ZeroDelay.{Sending}
 use Rattle.rules.specs.GivenBack.{Answer, step}
-use Rattle.rules.specs.Sequences.{after, along}
-use Rattle.rules.specs.declared.Stamp.{Stamp}
-use Rattle.rules.specs.declared.Settings.{Settings}
 use Rattle.rules.specs.declared.Machine.{Machine}
 use Rattle.rules.specs.declared.Item.{Item}
-use Rattle.rules.specs.declared.Opened.the-variants.{Ready}
 use Rattle.rules.specs.declared.Event.{Event}
-use Rattle.preview.specs.Views.{listed, sending-list, packed-sendings}
+use Rattle.preview.specs.Views.{listed, packed-sendings}
 use Rattle.preview.specs.declared.Items.{Items}
 use Rattle.preview.specs.declared.Items.the-variants.{None, One, Two}
-use Rattle.engine.specs.Calls.{no-more as no-call, OfTheCode}
+use Rattle.engine.specs.Calls.{no-more as no-call}
 use Rattle.engine.proofs.Calls.{of-the-code}
 use Rattle.row.specs.Row.{RowAnswer, asking-at}
-use Rattle.row.specs.Views.{Tells, TellsAt, asked-at}
+use Rattle.row.specs.Views.{Tells, TellsAt}
 use Rattle.row.specs.RowFacts.{Found}
-use Rattle.row.specs.RowRuns.{RowEvent, row-step, row-after, events-of, read-own, row-along}
-use Rattle.row.specs.RowCalls.{Called, RowCalls, no-more, call, last-row, told-to, row-answer, along-row-calls, AsksAt}
-use Rattle.row.specs.RowCalls.{SameOfTheCode, Isolated-calls, OfTheRow, Of-the-row}
+use Rattle.row.specs.RowRuns.{RowEvent, row-step, row-after, read-own, row-along}
+use Rattle.row.specs.RowCalls.{Called, RowCalls, no-more, call, last-row, told-to, row-answer, along-row-calls}
+use Rattle.row.specs.RowCalls.{Isolated-calls, Of-the-row}
 use Rattle.row.specs.declared.Told.{Told}
-use Rattle.row.specs.declared.AskedAt.{AskedAt}
-use Rattle.row.proofs.RowRuns.{as-alone, isolated, demand-3-at, found-own, found-other, read-here}
+use Rattle.row.proofs.RowRuns.{as-alone, isolated, demand-3-at, found-own, found-other}
 
 -- the one form in which items and sendings are told
 abbrev packed-items : List Item → Items

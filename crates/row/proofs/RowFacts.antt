@@ -3,16 +3,14 @@
 use Prim.Native.Nat.{ℕ, _<_}
 use native.Mathlib.Omega.{arith}
 use mathlib.Core.List.{List}
-use mathlib.Core.Logic.{_≢_, _↔_}
 use mathlib.Core.Option.{Option, none, some, Option·none-ne-some}
 use mathlib.Core.Path.{_≡_, refl, sym, ap, _∙_}
 use lib.Dec.{ltb, lit<}
-use lib.ListN.{length, getElem?, set, length-set}
+use lib.ListN.{length, length-set}
 use Rattle.rules.specs.Numbers.{largest-stamp}
 use Rattle.rules.specs.Pairs.{Lent, lent-good}
 use Rattle.rules.specs.States.{well-formed}
 use Rattle.rules.specs.GivenBack.{Answer, Verdict, input, too-many, judge-input, judge, answer, step-with, step}
-use Rattle.rules.specs.Refusals.{NotGood}
 use Rattle.rules.specs.Distance.{Asking, not-answered, asking}
 use Rattle.rules.specs.Demand3.{tick}
 use Rattle.rules.specs.declared.Stamp.{Stamp}
@@ -23,7 +21,7 @@ use Rattle.rules.proofs.Choices.{both-ways}
 use Rattle.rules.proofs.Refusals.{refusals}
 use Rattle.rules.proofs.DistanceFacts.{same-refusals}
 use Rattle.row.specs.Row.{keyboard, RowAnswer, refused-13, answered-at, step-at, asking-at}
-use Rattle.row.specs.RowFacts.{NoKeyboard, Found, ItsOwn, RowAsGiven, RowFacts, AskingItsOwn, RowAskingFacts}
+use Rattle.row.specs.RowFacts.{NoKeyboard, Found, RowFacts, RowAskingFacts}
 use Rattle.row.proofs.Found.{set-same, set-other, set-as-is, found-in, none-found, none-why, is-there}
 use Rattle.row.proofs.Found.{step-here, step-nowhere, asking-here, asking-nowhere}
 
@@ -41,10 +39,6 @@ below-13 g m e =
         both-ways (λ (v : Verdict). answer g m (e .stamp) v .number < 13) (ltb largest-stamp (e .stamp .0)) (lit< tt)
         (both-ways (λ (v : Verdict). answer g m (e .stamp) v .number < 13) (ltb (e .stamp .0) (m .last .0)) (lit< tt)
         (both-ways (λ (v : Verdict). answer g m (e .stamp) v .number < 13) (too-many m e) (lit< tt) (lit< tt)))
-
--- nor an asking
-asking-below-13 : (g : Lent) (m : Machine) (now : Stamp) → asking g m now .number < 13
-asking-below-13 g m now = rw (same-refusals g m now) (below-13 g m (tick now))
 
 module _ (row : List Machine) (k : ℕ) where
   -- where a keyboard is found, 13 is not due
@@ -69,7 +63,9 @@ module _ (g : Lent) (row : List Machine) (k : ℕ) (e : Event) where
       record {
         gives-13 = (λ _. none-why row k h, λ _. rw at);
         changes-nothing = λ _. at;
-        gives-12 = (λ n. absurd (let z : _≡_ {A = ℕ} 13 12 = sym (ap (λ (a : RowAnswer). a .number) at) ∙ n in omega arith), λ p. no-keyboard-there row k h (p .0));
+        gives-12 =
+            (λ n. absurd (let z : _≡_ {A = ℕ} 13 12 = sym (ap (λ (a : RowAnswer). a .number) at) ∙ n in omega arith),
+            λ p. no-keyboard-there row k h (p .0));
         else-its-own = λ not-due. no-keyboard-there row k h not-due;
         refused = λ _. record { no-items = rw at; no-sendings = rw at; row-as-given = rw at };
         same-length = rw at;
@@ -119,14 +115,17 @@ module _ (g : Lent) (row : List Machine) (k : ℕ) (now : Stamp) where
       record {
         gives-13 = (λ _. none-why row k h, λ _. rw at);
         no-distance = λ _. at;
-        gives-12 = (λ n. absurd (let z : _≡_ {A = ℕ} 13 12 = sym (ap (λ (a : Asking). a .number) at) ∙ n in omega arith), λ p. no-keyboard-there row k h (p .0));
+        gives-12 =
+            (λ n. absurd (let z : _≡_ {A = ℕ} 13 12 = sym (ap (λ (a : Asking). a .number) at) ∙ n in omega arith),
+            λ p. no-keyboard-there row k h (p .0));
         else-its-own = λ not-due. no-keyboard-there row k h not-due;
       }
 
   asking-facts-here : (m : Machine) → Found row k m → RowAskingFacts g row k now
   asking-facts-here m f =
       let at : asking-at g row k now ≡ asking g m now = asking-here row k g now m f in
-      let number-is : asking-at g row k now .number ≡ step g m (tick now) .number = ap (λ (a : Asking). a .number) at ∙ same-refusals g m now in
+      let number-is : asking-at g row k now .number ≡ step g m (tick now) .number = ap (λ (a : Asking). a .number) at
+          ∙ same-refusals g m now in
       record {
         gives-13 = (
           λ n. absurd (let b = below-13 g m (tick now) in omega arith),

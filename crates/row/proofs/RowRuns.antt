@@ -1,26 +1,21 @@
 -- A row's sequence, read at one keyboard, is the sequence of one machine over this keyboard's events; and so no other keyboard
 -- matters to it, and what is proved of one machine's sequences is read for each keyboard of a row.
-use Prim.Native.Nat.{ℕ, _<_}
+use Prim.Native.Nat.{ℕ}
 use mathlib.Core.Bool.{Bool, true, false}
 use mathlib.Core.List.{List, [], _∷_, _++_}
-use mathlib.Core.Logic.{_≢_, _↔_}
 use mathlib.Core.Option.{Option, none, some}
 use mathlib.Core.Path.{_≡_, refl, sym, ap, _∙_}
 use lib.Dec.{eqb}
 use lib.ListN.{getElem?}
 use borrow.Author.Tests.{eqb-true, eqb-false}
 use Rattle.rules.specs.Choice.{if_then_else_}
-use Rattle.rules.specs.Numbers.{in-range}
-use Rattle.rules.specs.Pairs.{Lent, lent-good}
+use Rattle.rules.specs.Pairs.{Lent}
 use Rattle.rules.specs.States.{later, fresh}
 use Rattle.rules.specs.GivenBack.{Answer, step}
-use Rattle.rules.specs.Refusals.{NotAllowed, AboveLargest}
 use Rattle.rules.specs.Distance.{Asking, asking}
-use Rattle.rules.specs.Sequences.{after, along, state, accepted-events}
+use Rattle.rules.specs.Sequences.{after, along, state}
 use Rattle.rules.specs.Demand3.{tick}
-use Rattle.rules.specs.MovedClock.{moved-events, moved-state, AllStay, told-in, last-stamp}
-use Rattle.rules.specs.declared.Stamp.{Stamp}
-use Rattle.rules.specs.declared.Settings.{Settings}
+use Rattle.rules.specs.MovedClock.{told-in}
 use Rattle.rules.specs.declared.Machine.{Machine}
 use Rattle.rules.specs.declared.Event.{Event}
 use Rattle.rules.proofs.Choices.{by-test}
@@ -28,11 +23,11 @@ use Rattle.rules.proofs.Demand3.{demand-3}
 use Rattle.rules.proofs.DistanceFacts.{same-refusals, distance-facts}
 use Rattle.rules.proofs.LastAccepted.{last-accepted}
 use Rattle.rules.proofs.MovedClock.{clock-moved}
-use Rattle.row.specs.Row.{keyboard, RowAnswer, step-found, step-at, asking-at}
+use Rattle.row.specs.Row.{keyboard, step-found, step-at}
 use Rattle.row.specs.RowFacts.{Found}
 use Rattle.row.specs.RowRuns.{RowEvent, row-step, row-after, events-of, read-own, row-along, answer-in}
-use Rattle.row.specs.RowRuns.{AsAlone, As-alone, SameKeyboard, Isolated, Demand3At, Demand-3-at, Own-last-stamp}
-use Rattle.row.specs.RowRuns.{ClockMovedAt, Clock-moved-at, DistanceAt, Distance-at}
+use Rattle.row.specs.RowRuns.{As-alone, Isolated, Demand-3-at, Own-last-stamp}
+use Rattle.row.specs.RowRuns.{Clock-moved-at, Distance-at}
 use Rattle.row.proofs.Found.{step-here, asking-here, put-own, put-other}
 
 module _ (g : Lent) (k : ℕ) where
@@ -43,7 +38,8 @@ module _ (g : Lent) (k : ℕ) where
       rw (eqb-true (x .board) k own, step-here row k g (x .event) m f) (put-own row k m (step g m (x .event) .machine) f)
 
   -- and at another
-  pub found-other : (row : List Machine) (x : RowEvent) (m : Machine) → Found row k m → eqb (x .board) k ≡ false → Found (row-step g row x .row) k m
+  pub found-other : (row : List Machine) (x : RowEvent) (m : Machine) → Found row k m → eqb (x .board) k ≡ false
+      → Found (row-step g row x .row) k m
   unfolding step-at
   found-other row x m f other = go (keyboard row (x .board))
     where
@@ -52,9 +48,10 @@ module _ (g : Lent) (k : ℕ) where
       go (some n) = put-other row k (x .board) m (step g n (x .event) .machine) (λ e. eqb-false (x .board) k other (sym e)) f
 
   -- what is read off its event
-  pub read-here : {X : Type 0} (f : Machine → Event → Answer → List X) (row : List Machine) (x : RowEvent) (m : Machine) → Found row k m
+  read-here : {X : Type 0} (f : Machine → Event → Answer → List X) (row : List Machine) (x : RowEvent) (m : Machine) → Found row k m
       → eqb (x .board) k ≡ true
-      → read-own f (getElem? row k) (x .event) (row-step g row x) (getElem? (row-step g row x .row) k) ≡ f m (x .event) (step g m (x .event))
+      → read-own f (getElem? row k) (x .event) (row-step g row x) (getElem? (row-step g row x .row) k) ≡ f m (x .event)
+          (step g m (x .event))
   read-here f row x m h own =
       rw (h .stands, found-own row x m h own .stands, eqb-true (x .board) k own, step-here row k g (x .event) m h)
 
