@@ -63,9 +63,10 @@ module _ (g : Lent) (row : List Machine) (k : ℕ) (e : Event) where
       record {
         gives-13 = (λ _. none-why row k h, λ _. rw at);
         changes-nothing = λ _. at;
-        gives-12 =
-            (λ n. absurd (let z : _≡_ {A = ℕ} 13 12 = sym (ap (λ (a : RowAnswer). a .number) at) ∙ n in omega arith),
-            λ p. no-keyboard-there row k h (p .0));
+        gives-12 = (
+          λ n. absurd (let z : _≡_ {A = ℕ} 13 12 = sym (ap (λ (a : RowAnswer). a .number) at) ∙ n in omega arith),
+          λ p. no-keyboard-there row k h (p .0),
+        );
         else-its-own = λ not-due. no-keyboard-there row k h not-due;
         refused = λ _. record { no-items = rw at; no-sendings = rw at; row-as-given = rw at };
         same-length = rw at;
@@ -115,9 +116,10 @@ module _ (g : Lent) (row : List Machine) (k : ℕ) (now : Stamp) where
       record {
         gives-13 = (λ _. none-why row k h, λ _. rw at);
         no-distance = λ _. at;
-        gives-12 =
-            (λ n. absurd (let z : _≡_ {A = ℕ} 13 12 = sym (ap (λ (a : Asking). a .number) at) ∙ n in omega arith),
-            λ p. no-keyboard-there row k h (p .0));
+        gives-12 = (
+          λ n. absurd (let z : _≡_ {A = ℕ} 13 12 = sym (ap (λ (a : Asking). a .number) at) ∙ n in omega arith),
+          λ p. no-keyboard-there row k h (p .0),
+        );
         else-its-own = λ not-due. no-keyboard-there row k h not-due;
       }
 
@@ -125,7 +127,7 @@ module _ (g : Lent) (row : List Machine) (k : ℕ) (now : Stamp) where
   asking-facts-here m f =
       let at : asking-at g row k now ≡ asking g m now = asking-here row k g now m f in
       let number-is : asking-at g row k now .number ≡ step g m (tick now) .number = ap (λ (a : Asking). a .number) at
-          ∙ same-refusals g m now in
+      ∙ same-refusals g m now in
       record {
         gives-13 = (
           λ n. absurd (let b = below-13 g m (tick now) in omega arith),

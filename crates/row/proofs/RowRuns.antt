@@ -51,7 +51,7 @@ module _ (g : Lent) (k : ℕ) where
   read-here : {X : Type 0} (f : Machine → Event → Answer → List X) (row : List Machine) (x : RowEvent) (m : Machine) → Found row k m
       → eqb (x .board) k ≡ true
       → read-own f (getElem? row k) (x .event) (row-step g row x) (getElem? (row-step g row x .row) k) ≡ f m (x .event)
-          (step g m (x .event))
+      (step g m (x .event))
   read-here f row x m h own =
       rw (h .stands, found-own row x m h own .stands, eqb-true (x .board) k own, step-here row k g (x .event) m h)
 

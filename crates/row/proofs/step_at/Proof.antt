@@ -1,7 +1,7 @@
 -- `row::step_at` meets its contract: a walk of its MIR, by hand. `is_keyboard` decides. Where the place is in the row, the borrow is
 -- opened, the machine there is copied out and passed to `advance`, the machine that comes back is stored in its place, and the borrow
 -- is closed at the row with it. Else nothing is opened, and `no_keyboard` answers. Of the three the walk knows only the contracts.
-use mathlib.Core.Path.{_≡_, refl, sym, _∙_, ap, subst}
+use mathlib.Core.Path.{_≡_, refl, sym, ap, subst}
 use mathlib.Core.Bool.{Bool, not}
 use mathlib.Core.List.{[], _∷_, List}
 use mathlib.Core.Option.{Option, none, some}
@@ -22,8 +22,8 @@ use ghost.Atoms.{Atoms, sem}
 use contract.Monad.{Fun, fact}
 use contract.Running.{givenOf, tables, tablesOf}
 use types.Kit as Kit
-use types.Kit.{Given, Item, Sq, runs, anyQ, ‵, raw, _⊛_, later, ⋆, atRet, _$_, _∵_, !, qed, by, move, keep, drop, use1, use2, split, join}
-use types.Kit.{pick, rewrite, fsplit, fjoin, suffices, frame, await, done}
+use types.Kit.{Given, Item, Sq, runs, anyQ, ‵, raw, _⊛_, ⋆, atRet, _$_, _∵_, !, qed, by, move, keep, drop, use1, use2, split, join, rewrite}
+use types.Kit.{fsplit, fjoin, suffices, frame, done}
 use types.Run.{look, look-raw, init, store, store-raw, stop, hop, fld, from, load, lit, of-opd, bin, and-then, no-more, assigns, land}
 use types.Run.{first, branches, skips, exec, returns, returns-within, enter, alloc1, alloc0, params1, pass1, pass0}
 use types.Part.{whole, sub, look-in}
@@ -32,7 +32,7 @@ use sound.WpLaws.{FmC, fmOf, WpFn-mono}
 use denote.RattleType.{RattleType, owns}
 use denote.Shadow.{pureI}
 use denote.Laws.{Is, shows}
-use denote.Plain.{uint-makes, uint-vals, uint-tells, bool-lawful, bool-tells}
+use denote.Plain.{uint-makes, uint-vals, uint-tells, bool-vals, bool-lawful, bool-tells}
 use denote.Builtin.{u32, usize, bool}
 use denote.Ref.{RefT}
 use denote.Memory.{cellAt, mem as in-memory, shares, pointee}
@@ -41,7 +41,7 @@ use denote.Slice.{codedHoleys, at-slice}
 use denote.Lend.{Held}
 use denote.Index.{place as lies-at, others, place-is, elem-out, elem-put, opens-slice, closes-slice}
 use denote.Signature.{plain}
-use denote.Steps.{only, owned, facts, heard, nothing}
+use denote.Steps.{only, owned, nothing}
 use denote.Struct.Laws as LL
 use denote.Triple.Entry.{Vals, onEntry}
 use denote.Triple.Spec.{Meets, tripleOf}
@@ -52,7 +52,9 @@ use denote.Triple.Table.{entered, cited}
 use denote.Triple.Walked.{says, Stays, stay-none, stay-none-slice, stay-slice, walkOf, goes-none, goes-none-slice, goes-slice, Walks}
 use denote.Triple.Walked.{ends-at, walked, walk-meets}
 use denote.Exit.{yes}
+use Rattle.row.proofs.Calling.{answers, IsKeyboard, is-keyboard-says, to-is-keyboard, goes-is-keyboard}
 use Rattle.row.proofs.Leaving.{then-of, rest-of, Local, local, stacked, env, leave}
+use Rattle.rules.specs.Pairs.{Lent}
 use Rattle.rules.specs.GivenBack.{step}
 use Rattle.rules.specs.declared.Machine.{Machine}
 use Rattle.rules.specs.declared.Event.{Event}
@@ -73,7 +75,6 @@ use Rattle.row.proofs.Told as R
 use Rattle.row.proofs.Told.Laws as R′
 use Rattle.row.proofs.Advanced as AD
 use Rattle.row.proofs.Advanced.Laws as AD′
-use Rattle.row.proofs.is_keyboard as is-keyboard′
 use Rattle.row.proofs.is_keyboard.Symbol as is-keyboard-def
 use Rattle.row.proofs.is_keyboard.Symbol.{name as #row·is-keyboard}
 use Rattle.row.proofs.is_keyboard.Met as is-keyboard-thm
@@ -91,16 +92,34 @@ use Rattle.row.proofs.step_at.Statement as stated
 use Rattle.row.proofs.step_at.Code as code
 use Rattle.row.proofs.step_at.Code.Mir as mir
 
+-- a machine's type, and its values in memory
 abbrev M′ : RattleType
 M′ = T.the-row
 
 abbrev vals-of : Machine → List Val
 vals-of = LL.vals T.the-type T′.the-laws
 
+-- those of times, of an event, of what is told, and of what `advance` gives back
+abbrev times-vals : Times → List Val
+times-vals = LL.vals TM.the-type TM′.the-laws
+
+abbrev event-vals : Event → List Val
+event-vals = LL.vals E.the-type E′.the-laws
+
+abbrev told-vals : Told → List Val
+told-vals = LL.vals R.the-type R′.the-laws
+
+abbrev done-vals : Advanced → List Val
+done-vals = LL.vals AD.the-type AD′.the-laws
+
 abbrev stayed : Stays (step-at′.ended .signature .params) (step-at′.ended .kept)
-stayed =
-    (stay-slice (0 ∷ []) tt (plain (λ _. M′)), (stay-none-slice (1 ∷ []) tt (plain (λ _. u32)) yes,
-    (stay-none (λ _. TM.the-row) yes, (stay-none (λ _. usize) yes, (stay-none (λ _. E.the-row) yes, tt)))))
+stayed = (
+  stay-slice (0 ∷ []) tt (plain (λ _. M′)),
+  (
+    stay-none-slice (1 ∷ []) tt (plain (λ _. u32)) yes,
+    (stay-none (λ _. TM.the-row) yes, (stay-none (λ _. usize) yes, (stay-none (λ _. E.the-row) yes, tt))),
+  ),
+)
 
 -- the struct of what is told and the machine, by its fields' types
 abbrev both-ty : Ty → Ty → Ty
@@ -116,9 +135,9 @@ module _ {M : Type 1} (𝓤 : URA M) (H : Heap 𝓤) (A : Atoms 𝓤) (W : Given
   abbrev code-locals : (v₀ v₁ v₂ v₃ v₄ v₅ v₆ v₇ v₈ v₉ v₁₀ v₁₁ v₁₂ : Option Val) → List Local
   code-locals v₀ v₁ v₂ v₃ v₄ v₅ v₆ v₇ v₈ v₉ v₁₀ v₁₁ v₁₂ =
       local tR l₀ v₀ ∷ local (sliceTy (tyRef (named 0) mut (pointee (M′ .written)))) l₁ v₁
-          ∷ local (sliceTy (tyRef (named 1) imm (tyInt w32))) l₂ v₂ ∷ local ttimes l₃ v₃ ∷ local (tyInt w64) l₄ v₄ ∷ local tev l₅ v₅
-          ∷ local (both-ty tR tT) l₆ v₆ ∷ local tyBool l₇ v₇ ∷ local (tyInt w64) l₈ v₈ ∷ local (tyInt w64) l₉ v₉ ∷ local tyPtr l₁₀ v₁₀
-          ∷ local tT l₁₁ v₁₁ ∷ local tyPtr l₁₂ v₁₂ ∷ []
+      ∷ local (sliceTy (tyRef (named 1) imm (tyInt w32))) l₂ v₂ ∷ local ttimes l₃ v₃ ∷ local (tyInt w64) l₄ v₄ ∷ local tev l₅ v₅
+      ∷ local (both-ty tR tT) l₆ v₆ ∷ local tyBool l₇ v₇ ∷ local (tyInt w64) l₈ v₈ ∷ local (tyInt w64) l₉ v₉ ∷ local tyPtr l₁₀ v₁₀
+      ∷ local tT l₁₁ v₁₁ ∷ local tyPtr l₁₂ v₁₂ ∷ []
 
   abbrev code-env : Env 𝓤 H
   code-env = env 𝓤 H A (code-locals none none none none none none none none none none none none none)
@@ -127,56 +146,49 @@ module _ {M : Type 1} (𝓤 : URA M) (H : Heap 𝓤) (A : Atoms 𝓤) (W : Given
     -- the machine is copied out
     code-reads : (y₁ y₂ y₃ y₄ y₅ y₆ y₇ y₈ y₉ y₁₀ : Item 𝓤) (b o : ℕ) (v : Val) → Holds (hasTy tT v) × WT v
         → Sq W (‵ (fat fullShare (rawTy tT) b o v) ∷ y₁ ∷ y₂ ∷ y₃ ∷ y₄ ∷ y₅ ∷ y₆ ∷ y₇ ∷ y₈ ∷ y₉ ∷ y₁₀
-            ∷ stacked 𝓤 H A (code-locals v₀ v₁ v₂ v₃ v₄ v₅ v₆ v₇ v₈ v₉ (some (vptr b o)) (some v) v₁₂) []) (runs C Λ code-env rest q)
+        ∷ stacked 𝓤 H A (code-locals v₀ v₁ v₂ v₃ v₄ v₅ v₆ v₇ v₈ v₉ (some (vptr b o)) (some v) v₁₂) []) (runs C Λ code-env rest q)
         → Sq W (‵ (fat fullShare (rawTy tT) b o v) ∷ y₁ ∷ y₂ ∷ y₃ ∷ y₄ ∷ y₅ ∷ y₆ ∷ y₇ ∷ y₈ ∷ y₉ ∷ y₁₀
-            ∷ stacked 𝓤 H A (code-locals v₀ v₁ v₂ v₃ v₄ v₅ v₆ v₇ v₈ v₉ (some (vptr b o)) none v₁₂) [])
-            (runs C Λ code-env (seq (assign (place 11 []) (rvOpd (copy (place 10 (deref tT ∷ []))))) rest) q)
+        ∷ stacked 𝓤 H A (code-locals v₀ v₁ v₂ v₃ v₄ v₅ v₆ v₇ v₈ v₉ (some (vptr b o)) none v₁₂) [])
+        (runs C Λ code-env (seq (assign (place 11 []) (rvOpd (copy (place 10 (deref tT ∷ []))))) rest) q)
     code-reads y₁ y₂ y₃ y₄ y₅ y₆ y₇ y₈ y₉ y₁₀ b o v wt s =
         assigns ! (of-opd ! (load ! (from ! (hop ! (look ! 15 refl) (stop !))) (look-raw ! 0 refl))) (from ! (stop !)) (init ! 13 refl wt) $
-            s
+        s
 
     -- the machine that came back is stored
     code-writes : (y₁ y₂ y₃ y₄ y₅ y₆ y₇ y₈ y₉ : Item 𝓤) (b o : ℕ) (v r m : Val) → Holds (hasTy tT m) × WT m
         → Sq W (‵ (fat fullShare (rawTy tT) b o m) ∷ y₁ ∷ y₂ ∷ y₃ ∷ y₄ ∷ y₅ ∷ y₆ ∷ y₇ ∷ y₈ ∷ y₉
-            ∷ stacked 𝓤 H A (code-locals v₀ v₁ v₂ v₃ v₄ v₅ (some (both-val r m)) v₇ v₈ v₉ v₁₀ v₁₁ (some (vptr b o))) [])
-            (runs C Λ code-env rest q)
+        ∷ stacked 𝓤 H A (code-locals v₀ v₁ v₂ v₃ v₄ v₅ (some (both-val r m)) v₇ v₈ v₉ v₁₀ v₁₁ (some (vptr b o))) [])
+        (runs C Λ code-env rest q)
         → Sq W (‵ (fat fullShare (rawTy tT) b o v) ∷ y₁ ∷ y₂ ∷ y₃ ∷ y₄ ∷ y₅ ∷ y₆ ∷ y₇ ∷ y₈ ∷ y₉
-            ∷ stacked 𝓤 H A (code-locals v₀ v₁ v₂ v₃ v₄ v₅ (some (both-val r m)) v₇ v₈ v₉ v₁₀ v₁₁ (some (vptr b o))) [])
-            (runs C Λ code-env (seq (assign (place 12 (deref tT ∷ [])) (rvOpd (copy (place 6 (field 1 ∷ []))))) rest) q)
+        ∷ stacked 𝓤 H A (code-locals v₀ v₁ v₂ v₃ v₄ v₅ (some (both-val r m)) v₇ v₈ v₉ v₁₀ v₁₁ (some (vptr b o))) [])
+        (runs C Λ code-env (seq (assign (place 12 (deref tT ∷ [])) (rvOpd (copy (place 6 (field 1 ∷ []))))) rest) q)
     code-writes y₁ y₂ y₃ y₄ y₅ y₆ y₇ y₈ y₉ b o v r m wt s =
         assigns ! (of-opd ! (load ! (from ! (fld ! refl (stop !))) (look-in ! 22 (sub ! 1 refl (whole !)))))
-            (from ! (hop ! (look ! 10 refl) (stop !))) (store-raw ! 0 refl wt) $ s
+        (from ! (hop ! (look ! 10 refl) (stop !))) (store-raw ! 0 refl wt) $ s
 
     -- what is told is copied, the function returns, and its locals are freed
     code-leaves : (y₁ y₂ y₃ y₄ y₅ y₆ y₇ : Item 𝓤) (r m : Val) (Kf : Val → SProp 𝓤)
         → Kit.post 𝓤 H q returnsᴼ ≡ atReturn 𝓤 H code-env Kf returnsᴼ → Holds (hasTy tR r) × WT r
         → ent 𝓤 (⋆ 𝓤 H A (y₁ ∷ y₂ ∷ y₃ ∷ y₄ ∷ y₅ ∷ [])) (Kf r)
         → Sq W (y₁ ∷ y₂ ∷ y₃ ∷ y₄ ∷ y₅ ∷ y₆ ∷ y₇ ∷ stacked 𝓤 H A
-            (code-locals none v₁ v₂ v₃ v₄ v₅ (some (both-val r m)) v₇ v₈ v₉ v₁₀ v₁₁ v₁₂) [])
-            (runs C Λ code-env (seq (assign (place 0 []) (rvOpd (copy (place 6 (field 0 ∷ []))))) return) q)
+        (code-locals none v₁ v₂ v₃ v₄ v₅ (some (both-val r m)) v₇ v₈ v₉ v₁₀ v₁₁ v₁₂) [])
+        (runs C Λ code-env (seq (assign (place 0 []) (rvOpd (copy (place 6 (field 0 ∷ []))))) return) q)
     code-leaves y₁ y₂ y₃ y₄ y₅ y₆ y₇ r m Kf e wt h =
         assigns ! (of-opd ! (load ! (from ! (fld ! refl (stop !))) (look-in ! 19 (sub ! 0 refl (whole !))))) (from ! (stop !))
-            (init ! 31 refl wt) $
+        (init ! 31 refl wt) $
         returns-within ! Kf e (look ! 31 refl) $
         move ! (31 ∷ 32 ∷ 29 ∷ 30 ∷ 27 ∷ 28 ∷ 25 ∷ 26 ∷ 23 ∷ 24 ∷ 21 ∷ 22 ∷ 19 ∷ 20 ∷ 17 ∷ 18 ∷ 15 ∷ 16 ∷ 13 ∷ 14 ∷ 11 ∷ 12 ∷ 9 ∷ 10 ∷ 7 ∷ 8
-            ∷ []) $
+        ∷ []) $
         leave 𝓤 H A W (code-locals (some r) v₁ v₂ v₃ v₄ v₅ (some (both-val r m)) v₇ v₈ v₉ v₁₀ v₁₁ v₁₂) _ _
-            (keep ! (0 ∷ 1 ∷ 2 ∷ 3 ∷ 4 ∷ []) $ by ! h)
+        (keep ! (0 ∷ 1 ∷ 2 ∷ 3 ∷ 4 ∷ []) $ by ! h)
 
 module _ {M : Type 1} (𝓤 : URA M) (H : Heap 𝓤) (A : Atoms 𝓤) (mem : Memory → SProp 𝓤) (run : Routine → Fun 𝓤) where
   -- the contracts that the proof cites, and of each the clause alone
-  abbrev IsKeyboard : Contract 𝓤
-  IsKeyboard = tripleOf 𝓤 H A is-keyboard′.signature (is-keyboard′.spec 𝓤 H A mem run)
-
   abbrev Advance : Contract 𝓤
   Advance = tripleOf 𝓤 H A advance.signature (advance.spec 𝓤 H A mem run)
 
   abbrev NoKeyboard : Contract 𝓤
   NoKeyboard = tripleOf 𝓤 H A no-keyboard.signature (no-keyboard.spec 𝓤 H A mem run)
-
-  is-keyboard-says : (n i : ℕ) (r : Bool) → ent 𝓤 (ensured 𝓤 H A is-keyboard′.ended (is-keyboard′.clauses 𝓤 H A mem run) tt (n, (i, tt)) tt
-      r) (fact 𝓤 (r ≡ is-keyboard n i))
-  is-keyboard-says n i r = exE 𝓤 _ (λ ws. snd∗ 𝓤 (sem 𝓤 H A (lasts is-keyboard′.ended tt (n, (i, tt)) ws)) (fact 𝓤 (r ≡ is-keyboard n i)))
 
   advance-says : (κ′ : Lft) (m : Machine) (p : RefT (List ℕ)) (times : Times) (ev : Event) (r : Advanced)
       → ent 𝓤 (ensured 𝓤 H A advance.ended (advance.clauses 𝓤 H A mem run) (κ′, tt) (m, (p, (times, (ev, tt)))) tt r)
@@ -191,9 +203,8 @@ module _ {M : Type 1} (𝓤 : URA M) (H : Heap 𝓤) (A : Atoms 𝓤) (mem : Mem
 
 module _ {M : Type 1} (𝓤 : URA M) (H : Heap 𝓤) (A : Atoms 𝓤) (W : Given 𝓤 H A) (mem : Memory → SProp 𝓤) (run : Routine → Fun 𝓤) (κ κ′ : Lft)
     (q q′ : Share) (b o : ℕ) (γ : GName) (ys : List Machine) (p : RefT (List ℕ)) (times : Times) (i : ℕ) (ev : Event)
-    (room : Room M′ (length ys)) (p-room : Room u32 (length (p .now)))
-        (times-is : Is TM.the-row times (LL.vals TM.the-type TM′.the-laws times)) (i-fits : i < 2 ^ 64)
-        (ev-is : Is E.the-row ev (LL.vals E.the-type E′.the-laws ev)) where
+    (room : Room M′ (length ys)) (p-room : Room u32 (length (p .now))) (times-is : Is TM.the-row times (times-vals times))
+    (i-fits : i < 2 ^ 64) (ev-is : Is E.the-row ev (event-vals ev)) where
   abbrev n : ℕ
   n = length ys
 
@@ -207,10 +218,18 @@ module _ {M : Type 1} (𝓤 : URA M) (H : Heap 𝓤) (A : Atoms 𝓤) (W : Given
   abbrev a : Arg
   a = (x ys, (p, (times, (i, (ev, tt)))))
 
+  -- what the parameters are in memory
+  abbrev list-val : Val
+  list-val = sliceVal (p .ptr) (length (p .now))
+
+  abbrev times-val : Val
+  times-val = LL.val TM.the-type TM′.the-laws times
+
+  abbrev event-val : Val
+  event-val = LL.val E.the-type E′.the-laws ev
+
   abbrev at : Vals step-at′.signature (κ, (κ′, tt))
-  at =
-      (sliceVal (b, o) n ∷ [], (sliceVal (p .ptr) (length (p .now)) ∷ [],
-      (LL.vals TM.the-type TM′.the-laws times, (vint w64 i ∷ [], (LL.vals E.the-type E′.the-laws ev, tt)))))
+  at = (sliceVal (b, o) n ∷ [], (list-val ∷ [], (times-vals times, (vint w64 i ∷ [], (event-vals ev, tt)))))
 
   abbrev bound : walkOf 𝓤 H A step-at′.ended stayed (step-at′.clauses 𝓤 H A mem run) .Ghost
   bound = (((κ, (κ′, tt)), (q, (q′, tt)), tt, a, at), tt)
@@ -218,34 +237,31 @@ module _ {M : Type 1} (𝓤 : URA M) (H : Heap 𝓤) (A : Atoms 𝓤) (W : Given
   abbrev Post : Val → SProp 𝓤
   Post = walkOf 𝓤 H A step-at′.ended stayed (step-at′.clauses 𝓤 H A mem run) .post bound
 
+  abbrev lends : Lent
+  lends = lent (p .now) times
+
   abbrev state : Machine
   state = getD ys i any-machine
 
-  abbrev to-is-keyboard : IsKeyboard 𝓤 H A mem run .Ghost
-  to-is-keyboard = ((tt, tt, tt, (n, (i, tt)), (vint w64 n ∷ [], (vint w64 i ∷ [], tt))), tt)
-
-  goes-is-keyboard : ent 𝓤 (sem 𝓤 H A ftrue) (IsKeyboard 𝓤 H A mem run .pre to-is-keyboard)
-  goes-is-keyboard =
-      qed W (‵ ftrue ∷ []) ∵ nothing ! $ owned ! usize (Is usize) (uint-makes 𝓤 H A W w64) i _ (refl, i-fits) $ fjoin ! $
-      owned ! usize (Is usize) (uint-makes 𝓤 H A W w64) n _ (refl, room .0) $ fjoin ! $
-      move ! (1 ∷ 0 ∷ []) $ join ! $ frame ! $ done !
-
   abbrev to-advance : Advance 𝓤 H A mem run .Ghost
-  to-advance =
-      (((κ′, tt), (q′, tt), tt, (state, (p, (times, (ev, tt)))),
-      (vals-of state, (sliceVal (p .ptr) (length (p .now)) ∷ [],
-      (LL.vals TM.the-type TM′.the-laws times, (LL.vals E.the-type E′.the-laws ev, tt))))), tt)
+  to-advance = (
+    ((κ′, tt), (q′, tt), tt, (state, (p, (times, (ev, tt)))), (vals-of state, (list-val ∷ [], (times-vals times, (event-vals ev, tt))))),
+    tt,
+  )
+
+  -- the list of pairs, and the token of its lifetime
+  abbrev list-token : Item 𝓤
+  list-token = ‵ (flft κ′ q′) ⊛ ‵ ftrue
 
   abbrev Pairs : Fml
-  Pairs = ShrSlice (named 1) κ′ u32 .own p (sliceVal (p .ptr) (length (p .now)) ∷ [])
+  Pairs = ShrSlice (named 1) κ′ u32 .own p (list-val ∷ [])
 
   goes-advance : Is M′ state (vals-of state) → ent 𝓤 (sep 𝓤 (sep 𝓤 (A .lft κ′ q′) (sem 𝓤 H A ftrue)) (sem 𝓤 H A Pairs))
       (Advance 𝓤 H A mem run .pre to-advance)
   goes-advance g =
-      qed W ((‵ (flft κ′ q′) ⊛ ‵ ftrue) ∷ ‵ Pairs ∷ []) ∵ nothing ! $
-      owned ! E.the-row (Is E.the-row) (LL.makes E.the-type E′.the-plain 𝓤 H A) ev _ ev-is $ fjoin ! $
-      owned ! TM.the-row (Is TM.the-row) (LL.makes TM.the-type TM′.the-plain 𝓤 H A) times _ times-is $ fjoin ! $ move ! (2 ∷ 0 ∷ []) $
-      fjoin ! $ owned ! M′ (Is M′) (LL.makes T.the-type T′.the-plain 𝓤 H A) state _ g $ fjoin ! $
+      qed W (list-token ∷ ‵ Pairs ∷ []) ∵ nothing ! $ owned ! E.the-row (Is E.the-row) (LL.makes E.the-type E′.the-plain 𝓤 H A) ev _ ev-is $
+      fjoin ! $ owned ! TM.the-row (Is TM.the-row) (LL.makes TM.the-type TM′.the-plain 𝓤 H A) times _ times-is $ fjoin ! $
+      move ! (2 ∷ 0 ∷ []) $ fjoin ! $ owned ! M′ (Is M′) (LL.makes T.the-type T′.the-plain 𝓤 H A) state _ g $ fjoin ! $
       move ! (1 ∷ 0 ∷ []) $ join ! $ frame ! $ done !
 
   abbrev to-no-keyboard : NoKeyboard 𝓤 H A mem run .Ghost
@@ -255,22 +271,22 @@ module _ {M : Type 1} (𝓤 : URA M) (H : Heap 𝓤) (A : Atoms 𝓤) (W : Given
   goes-no-keyboard = qed W (‵ ftrue ∷ []) ∵ nothing ! $ join ! $ frame ! $ done !
 
   -- at exit the borrow is owned at the list zs, and the answer is r
-  exits : (zs : List Machine) (r : Told) → Is R.the-row r (LL.vals R.the-type R′.the-laws r) → length zs ≡ n
-      → TellsAt r (step-at (lent (p .now) times) ys i ev) × (zs ≡ step-at (lent (p .now) times) ys i ev .row)
-      → ent 𝓤 (⋆ 𝓤 H A (‵ (fobs γ (codedHoleys M′ .code (heres M′ zs))) ∷ ‵ (fbor κ (Held M′ (length zs) b o γ)) ∷ ‵ (flft κ q)
-          ∷ (‵ (flft κ′ q′) ⊛ ‵ ftrue) ∷ ‵ Pairs ∷ [])) (Post (LL.val R.the-type R′.the-laws r))
+  exits : (zs : List Machine) (r : Told) → Is R.the-row r (told-vals r) → length zs ≡ n
+      → TellsAt r (step-at lends ys i ev) × (zs ≡ step-at lends ys i ev .row)
+      → ent 𝓤 (⋆ 𝓤 H A (‵ (fobs γ (codedHoleys M′ .code (heres M′ zs))) ∷ ‵ (fbor κ (Held M′ (length zs) b o γ)) ∷ ‵ (flft κ q) ∷ list-token
+      ∷ ‵ Pairs ∷ [])) (Post (LL.val R.the-type R′.the-laws r))
   exits zs r g l e =
-      qed W (‵ (fobs γ (codedHoleys M′ .code (heres M′ zs))) ∷ ‵ (fbor κ (Held M′ (length zs) b o γ)) ∷ ‵ (flft κ q)
-          ∷ (‵ (flft κ′ q′) ⊛ ‵ ftrue) ∷ ‵ Pairs ∷ []) ∵
+      qed W (‵ (fobs γ (codedHoleys M′ .code (heres M′ zs))) ∷ ‵ (fbor κ (Held M′ (length zs) b o γ)) ∷ ‵ (flft κ q) ∷ list-token ∷ ‵ Pairs
+      ∷ []) ∵
       suffices ! _ (ends-at 𝓤 H A step-at′.ended stayed (step-at′.clauses 𝓤 H A mem run) W bound (LL.val R.the-type R′.the-laws r) r
-          (zs, (tt, (tt, (tt, (tt, tt))))) (l, (tt, (tt, (tt, (tt, tt)))))) $ says ! e $
+      (zs, (tt, (tt, (tt, (tt, tt))))) (l, (tt, (tt, (tt, (tt, tt)))))) $ says ! e $
       move ! (2 ∷ 3 ∷ []) $ join ! $ frame ! $
       fjoin ! $ pureI ! (at-slice M′ (x zs) (at .0)) (tt, (tt, tt))
-          (ap (λ (m : ℕ). sliceVal (b, o) m ∷ []) (sym l), subst (Room M′) (sym l) room) $ fjoin ! $
+      (ap (λ (m : ℕ). sliceVal (b, o) m ∷ []) (sym l), subst (Room M′) (sym l) room) $ fjoin ! $
       nothing ! $ owned ! E.the-row (Is E.the-row) (LL.makes E.the-type E′.the-plain 𝓤 H A) ev _ ev-is $ fjoin ! $
-          owned ! usize (Is usize) (uint-makes 𝓤 H A W w64) i _ (refl, i-fits) $ fjoin ! $
-          owned ! TM.the-row (Is TM.the-row) (LL.makes TM.the-type TM′.the-plain 𝓤 H A) times _ times-is $ fjoin ! $ move ! (2 ∷ 0 ∷ []) $
-          fjoin ! $ move ! (1 ∷ 0 ∷ []) $ fjoin ! $ frame ! $
+      owned ! usize (Is usize) (uint-makes 𝓤 H A W w64) i _ (refl, i-fits) $ fjoin ! $
+      owned ! TM.the-row (Is TM.the-row) (LL.makes TM.the-type TM′.the-plain 𝓤 H A) times _ times-is $ fjoin ! $ move ! (2 ∷ 0 ∷ []) $
+      fjoin ! $ move ! (1 ∷ 0 ∷ []) $ fjoin ! $ frame ! $
       owned ! R.the-row (Is R.the-row) (LL.makes R.the-type R′.the-plain 𝓤 H A) r _ g $ done !
 
   module _ (C : Calls 𝓤 H) (Λ : Loops 𝓤 H) (fm : FmC 𝓤 H (W .laws) C)
@@ -301,68 +317,63 @@ module _ {M : Type 1} (𝓤 : URA M) (H : Heap 𝓤) (A : Atoms 𝓤) (W : Given
 
       abbrev Under : List (Item 𝓤)
       Under =
-          (‵ (flft κ q) ⊛ ‵ (flft κ′ q′) ⊛ ‵ ftrue) ∷ ‵ (owns
-          (MutSlice (named 0) κ M′ ∷ ShrSlice (named 1) κ′ u32 ∷ TM.the-row ∷ usize ∷ E.the-row ∷ []) a at) ∷ []
+          (‵ (flft κ q) ⊛ list-token) ∷ ‵ (owns (MutSlice (named 0) κ M′ ∷ ShrSlice (named 1) κ′ u32 ∷ TM.the-row ∷ usize ∷ E.the-row ∷ [])
+          a at) ∷ []
 
       -- where the branch begins: local i stands at 2 · (12 − i), then the token at 26, and what the parameters own
       abbrev Tested : List (Item 𝓤)
       Tested =
-          stacked 𝓤 H A (locals none (some row-val) (some (sliceVal (p .ptr) (length (p .now))))
-          (some (LL.val TM.the-type TM′.the-laws times)) (some (vint w64 i)) (some (LL.val E.the-type E′.the-laws ev)) none
+          stacked 𝓤 H A (locals none (some row-val) (some list-val) (some times-val) (some (vint w64 i)) (some event-val) none
           (some (vbool (is-keyboard n i))) (some (vint w64 n)) none none none none) Under
+
+      -- where the machine lies
+      abbrev there : ℕ
+      there = lies-at (in-memory M′ .size) o i
 
       -- where `advance` has returned d: the borrow is open, and the machine is out of the row
       abbrev Out : Option Val → Advanced → (y z : Item 𝓤) → List (Item 𝓤)
       Out v d y z =
-          ‵ (cellAt fullShare (M′ .mir) (vals-of state) b (lies-at (in-memory M′ .size) o i)) ∷ ‵ (M′ .own state (vals-of state))
-              ∷ ‵ (others (shares M′) fullShare ys i b o)
+          ‵ (cellAt fullShare (M′ .mir) (vals-of state) b there) ∷ ‵ (M′ .own state (vals-of state))
+          ∷ ‵ (others (shares M′) fullShare ys i b o)
           ∷ ‵ (fobor κ q (Held M′ (length ys) b o γ)) ∷ ‵ (fobs γ (codedHoleys M′ .code (heres M′ ys)))
-              ∷ ‵ (fauth γ (codedHoleys M′ .code (heres M′ ys))) ∷ (‵ (flft κ′ q′) ⊛ ‵ ftrue) ∷ ‵ Pairs ∷ y ∷ z
-          ∷ stacked 𝓤 H A (locals none (some row-val) (some (sliceVal (p .ptr) (length (p .now))))
-              (some (LL.val TM.the-type TM′.the-laws times)) (some (vint w64 i)) (some (LL.val E.the-type E′.the-laws ev))
-              (some (both-val (told-val d) (machine-val d))) (some (vbool (is-keyboard n i))) (some (vint w64 n))
-              (some (vint w64 (i * size))) (some (vptr b (lies-at (in-memory M′ .size) o i))) (some (only (vals-of state))) v) []
+          ∷ ‵ (fauth γ (codedHoleys M′ .code (heres M′ ys))) ∷ list-token ∷ ‵ Pairs ∷ y ∷ z
+          ∷ stacked 𝓤 H A (locals none (some row-val) (some list-val) (some times-val) (some (vint w64 i)) (some event-val)
+          (some (both-val (told-val d) (machine-val d))) (some (vbool (is-keyboard n i))) (some (vint w64 n))
+          (some (vint w64 (i * size))) (some (vptr b there)) (some (only (vals-of state))) v) []
 
       -- the code after the call
       abbrev after-call : Body
       after-call = rest-of (rest-of (rest-of (rest-of (then-of mir.s-3))))
 
       -- the machine is stored, the row is closed, what is told is copied, and the function returns
-      closes : (taken : T (is-keyboard n i)) (d : Advanced) → Is AD.the-row d (LL.vals AD.the-type AD′.the-laws d)
-          → Advances d (step (lent (p .now) times) state ev) → (y z : Item 𝓤)
-          → Sq W (Out (some (vptr b (lies-at (in-memory M′ .size) o i))) d y z) (runs C Λ E₀ (rest-of (rest-of after-call)) Then)
+      closes : (taken : T (is-keyboard n i)) (d : Advanced) → Is AD.the-row d (done-vals d) → Advances d (step lends state ev)
+          → (y z : Item 𝓤)
+          → Sq W (Out (some (vptr b there)) d y z) (runs C Λ E₀ (rest-of (rest-of after-call)) Then)
       closes taken d is₂ e₂ y z =
+          let parts = LL.owed AD.the-type AD′.the-laws d (done-vals d) is₂ in
           code-writes 𝓤 H A W C Λ R′.mir TM′.mir E′.mir T′.mir l₀ l₁ l₂ l₃ l₄ l₅ l₆ l₇ l₈ l₉ l₁₀ l₁₁ l₁₂ Then
-              (rest-of (rest-of (rest-of after-call))) none (some row-val) (some (sliceVal (p .ptr) (length (p .now))))
-              (some (LL.val TM.the-type TM′.the-laws times)) (some (vint w64 i)) (some (LL.val E.the-type E′.the-laws ev)) none
-              (some (vbool (is-keyboard n i))) (some (vint w64 n)) (some (vint w64 (i * size)))
-              (some (vptr b (lies-at (in-memory M′ .size) o i))) (some (only (vals-of state))) none _ _ _ _ _ _ _ _ _ b
-              (lies-at (in-memory M′ .size) o i) (only (vals-of state)) (told-val d) (machine-val d)
-          (LL.lawful T.the-type T′.the-laws 𝓤 H A W .typed (d .machine) (vals-of (d .machine))
-              (LL.owed AD.the-type AD′.the-laws d (LL.vals AD.the-type AD′.the-laws d) is₂ .1 .0) .0)
+          (rest-of (rest-of (rest-of after-call))) none (some _) (some _) (some _) (some _) (some _) none (some _) (some _) (some _)
+          (some _) (some _) none _ _ _ _ _ _ _ _ _ b there (only (vals-of state)) (told-val d) (machine-val d)
+          (LL.lawful T.the-type T′.the-laws 𝓤 H A W .typed (d .machine) (vals-of (d .machine)) (parts .1 .0) .0)
           (move ! (1 ∷ []) $ drop ! $ owned ! M′ (Is M′) (LL.makes T.the-type T′.the-plain 𝓤 H A) (d .machine) (vals-of (d .machine))
-              (LL.owed AD.the-type AD′.the-laws d (LL.vals AD.the-type AD′.the-laws d) is₂ .1 .0) $ move ! (1 ∷ 0 ∷ []) $
+          (parts .1 .0) $ move ! (1 ∷ 0 ∷ []) $
           elem-put ! M′ fullShare ys i (d .machine) (vals-of (d .machine)) b o (within n i taken) $
-              closes-slice ! tt M′ ys (set ys i (d .machine)) (length-set ys i (d .machine)) b o $
-          code-leaves 𝓤 H A W C Λ R′.mir TM′.mir E′.mir T′.mir l₀ l₁ l₂ l₃ l₄ l₅ l₆ l₇ l₈ l₉ l₁₀ l₁₁ l₁₂ Then skip none (some row-val)
-              (some (sliceVal (p .ptr) (length (p .now)))) (some (LL.val TM.the-type TM′.the-laws times)) (some (vint w64 i))
-              (some (LL.val E.the-type E′.the-laws ev)) none (some (vbool (is-keyboard n i))) (some (vint w64 n))
-              (some (vint w64 (i * size))) (some (vptr b (lies-at (in-memory M′ .size) o i))) (some (only (vals-of state)))
-              (some (vptr b (lies-at (in-memory M′ .size) o i))) _ _ _ _ _ _ _ (told-val d) (machine-val d) Post refl
-          (LL.lawful R.the-type R′.the-laws 𝓤 H A W .typed (d .told) (LL.vals R.the-type R′.the-laws (d .told))
-              (LL.owed AD.the-type AD′.the-laws d (LL.vals AD.the-type AD′.the-laws d) is₂ .0) .0)
-          (exits (set ys i (d .machine)) (d .told) (LL.owed AD.the-type AD′.the-laws d (LL.vals AD.the-type AD′.the-laws d) is₂ .0)
-              (length-set ys i (d .machine)) (tells-here ys i (lent (p .now) times) taken ev d e₂)))
+          closes-slice ! tt M′ ys (set ys i (d .machine)) (length-set ys i (d .machine)) b o $
+          code-leaves 𝓤 H A W C Λ R′.mir TM′.mir E′.mir T′.mir l₀ l₁ l₂ l₃ l₄ l₅ l₆ l₇ l₈ l₉ l₁₀ l₁₁ l₁₂ Then skip none (some _) (some _)
+          (some _) (some _) (some _) none (some _) (some _) (some _) (some _) (some _) (some _) _ _ _ _ _ _ _ (told-val d)
+          (machine-val d) Post refl
+          (LL.lawful R.the-type R′.the-laws 𝓤 H A W .typed (d .told) (told-vals (d .told)) (parts .0) .0)
+          (exits (set ys i (d .machine)) (d .told) (parts .0) (length-set ys i (d .machine)) (tells-here ys i lends taken ev d e₂)))
 
       -- the place again
-      stores : (taken : T (is-keyboard n i)) (d : Advanced) → Is AD.the-row d (LL.vals AD.the-type AD′.the-laws d)
-          → Advances d (step (lent (p .now) times) state ev) → (y z : Item 𝓤)
+      stores : (taken : T (is-keyboard n i)) (d : Advanced) → Is AD.the-row d (done-vals d) → Advances d (step lends state ev)
+          → (y z : Item 𝓤)
           → Sq W (Out none d y z) (runs C Λ E₀ after-call Then)
       stores taken d is₂ e₂ y z =
           assigns ! (bin ! (load ! (from ! (stop !)) (look ! 26 refl)) (lit ! tt) (record { fits = offset-fits n i taken }))
-              (from ! (stop !)) (store ! 16 refl (tt, record { fits = offset-fits n i taken })) $
+          (from ! (stop !)) (store ! 16 refl (tt, record { fits = offset-fits n i taken })) $
           assigns ! (bin ! (load ! (from ! (fld ! refl (stop !))) (look-in ! 32 (sub ! 0 refl (whole !))))
-              (load ! (from ! (stop !)) (look ! 16 refl)) tt) (from ! (stop !)) (init ! 10 refl (tt, tt)) $
+          (load ! (from ! (stop !)) (look ! 16 refl)) tt) (from ! (stop !)) (init ! 10 refl (tt, tt)) $
           rewrite ! 10 (λ (p : ℕ). ‵ (fat fullShare tyPtr l₁₂ 0 (vptr b p))) (sym (place-is size o i)) refl $
           closes taken d is₂ e₂ y z
 
@@ -370,98 +381,78 @@ module _ {M : Type 1} (𝓤 : URA M) (H : Heap 𝓤) (A : Atoms 𝓤) (W : Given
       steps : T (is-keyboard n i) → Sq W Tested (runs C Λ E₀ (then-of mir.s-3) Then)
       steps taken =
           assigns ! (bin ! (load ! (from ! (stop !)) (look ! 16 refl)) (lit ! tt) (record { fits = offset-fits n i taken }))
-              (from ! (stop !)) (init ! 6 refl (tt, record { fits = offset-fits n i taken })) $
+          (from ! (stop !)) (init ! 6 refl (tt, record { fits = offset-fits n i taken })) $
           assigns ! (bin ! (load ! (from ! (fld ! refl (stop !))) (look-in ! 22 (sub ! 0 refl (whole !))))
-              (load ! (from ! (stop !)) (look ! 6 refl)) tt) (from ! (stop !)) (init ! 4 refl (tt, tt)) $
+          (load ! (from ! (stop !)) (look ! 6 refl)) tt) (from ! (stop !)) (init ! 4 refl (tt, tt)) $
           rewrite ! 4 (λ (p : ℕ). ‵ (fat fullShare tyPtr l₁₀ 0 (vptr b p))) (sym (place-is size o i)) refl $
           move ! (27 ∷ []) $ fsplit ! $ fsplit ! $ move ! (1 ∷ []) $ fsplit ! $ move ! (3 ∷ []) $ fsplit ! $
-              use1 W (‵ Pairs ⊛ ‵ Pairs) (shr-slice-copy 𝓤 H A W (named 1) κ′ u32 .twice p (sliceVal (p .ptr) (length (p .now)) ∷ [])) $
-              split ! $ move ! (32 ∷ []) $ split ! $ move ! (5 ∷ 6 ∷ 0 ∷ []) $
+          use1 W (‵ Pairs ⊛ ‵ Pairs) (shr-slice-copy 𝓤 H A W (named 1) κ′ u32 .twice p (list-val ∷ [])) $ split ! $ move ! (32 ∷ []) $
+          split ! $ move ! (5 ∷ 6 ∷ 0 ∷ []) $
           opens-slice ! tt M′ ys b o $ elem-out ! M′ (Is M′) (shows 𝓤 H A M′) vals-of (LL.tells T.the-type T′.the-laws) fullShare ys i
-              any-machine b o (within n i taken) (λ g.
+          any-machine b o (within n i taken) (λ g.
           code-reads 𝓤 H A W C Λ R′.mir TM′.mir E′.mir T′.mir l₀ l₁ l₂ l₃ l₄ l₅ l₆ l₇ l₈ l₉ l₁₀ l₁₁ l₁₂ Then
-              (rest-of (rest-of (rest-of (then-of mir.s-3)))) none (some row-val) (some (sliceVal (p .ptr) (length (p .now))))
-              (some (LL.val TM.the-type TM′.the-laws times)) (some (vint w64 i)) (some (LL.val E.the-type E′.the-laws ev)) none
-              (some (vbool (is-keyboard n i))) (some (vint w64 n)) (some (vint w64 (i * size))) none none none _ _ _ _ _ _ _ _ _ _ b
-              (lies-at (in-memory M′ .size) o i) (only (vals-of state))
+          (rest-of (rest-of (rest-of (then-of mir.s-3)))) none (some _) (some _) (some _) (some _) (some _) none (some _) (some _)
+          (some _) none none none _ _ _ _ _ _ _ _ _ _ b there (only (vals-of state))
           (LL.lawful T.the-type T′.the-laws 𝓤 H A W .typed state (vals-of state) g .0) (
           move ! (6 ∷ 7 ∷ []) $ use2 W (raw (Advance 𝓤 H A mem run .pre to-advance)) (goes-advance g) $
           calls-at ! fm (Advance 𝓤 H A mem run) known-advance to-advance
-              (and-then ! (load ! (from ! (stop !)) (look ! 12 refl))
-              (and-then ! (load ! (from ! (stop !)) (look ! 30 refl))
-              (and-then ! (load ! (from ! (stop !)) (look ! 28 refl))
-              (and-then ! (load ! (from ! (stop !)) (look ! 24 refl)) (no-more !))))) (λ w₂.
-          use1 W (later (Kit.some (λ (d : Advanced). ((‵ (flft κ′ q′) ⊛ ‵ ftrue) ⊛ ‵ (AD.the-row .own d (w₂ ∷ []))) ⊛ raw
-              (ensured 𝓤 H A advance.ended (advance.clauses 𝓤 H A mem run) (κ′, tt) (state, (p, (times, (ev, tt)))) tt d)))) (id⊢ 𝓤 _) $
-              await ! tt $ pick ! (λ d.
-          split ! $ move ! (1 ∷ []) $ use1 W (raw (fact 𝓤 (Advances d (step (lent (p .now) times) state ev))))
-              (advance-says 𝓤 H A mem run κ′ state p times ev d) $ heard ! (Advances d (step (lent (p .now) times) state ev))
-              (λ e₂. split ! $ move ! (1 ∷ []) $
-          facts ! AD.the-row (Is AD.the-row) (shows 𝓤 H A AD.the-row) d (w₂ ∷ []) (λ is₂. move ! (1 ∷ 2 ∷ 3 ∷ 4 ∷ 5 ∷ 6 ∷ []) $
+          (and-then ! (load ! (from ! (stop !)) (look ! 12 refl))
+          (and-then ! (load ! (from ! (stop !)) (look ! 30 refl))
+          (and-then ! (load ! (from ! (stop !)) (look ! 28 refl))
+          (and-then ! (load ! (from ! (stop !)) (look ! 24 refl)) (no-more !))))) (λ w₂.
+          answers AD.the-row done-vals (LL.tells AD.the-type AD′.the-laws) list-token w₂ (id⊢ 𝓤 _)
+          (advance-says 𝓤 H A mem run κ′ state p times ev) (λ d e₂ is₂.
+          move ! (1 ∷ 2 ∷ 3 ∷ 4 ∷ 5 ∷ 6 ∷ []) $
           land ! (from ! (stop !)) (init ! 22 refl (LL.lawful AD.the-type AD′.the-laws 𝓤 H A W .typed d _ is₂ .0)) $
-          rewrite ! 22 (λ (u : Val). ‵ (fat fullShare (both-ty R′.mir T′.mir) l₆ 0 u)) (ap only (LL.tells AD.the-type AD′.the-laws d _ is₂))
-              refl $
-          stores taken d (subst (Is AD.the-row d) (LL.tells AD.the-type AD′.the-laws d _ is₂) is₂) e₂ _ _))))))
+          stores taken d is₂ e₂ _ _))))
 
       -- not in the row: `no_keyboard` answers, and the row is as it was
       refuses : T (not (is-keyboard n i)) → Sq W Tested (runs C Λ E₀ mir.t-4 (atRet E₀ Post))
       refuses left =
           nothing ! $ use1 W (raw (NoKeyboard 𝓤 H A mem run .pre to-no-keyboard)) goes-no-keyboard $
           calls-at ! fm (NoKeyboard 𝓤 H A mem run) known-no-keyboard to-no-keyboard (no-more !) (λ w₃.
-          use1 W (later (Kit.some (λ (d : Told). (‵ ftrue ⊛ ‵ (R.the-row .own d (w₃ ∷ []))) ⊛ raw
-              (ensured 𝓤 H A no-keyboard.ended (no-keyboard.clauses 𝓤 H A mem run) tt tt tt d)))) (id⊢ 𝓤 _) $ await ! tt $ pick ! (λ d.
-          split ! $ move ! (1 ∷ []) $ use1 W (raw (fact 𝓤 (Tells d 13 [] []))) (no-keyboard-says 𝓤 H A mem run d) $
-              heard ! (Tells d 13 [] []) (λ e₃. split ! $ drop ! $
-          facts ! R.the-row (Is R.the-row) (shows 𝓤 H A R.the-row) d (w₃ ∷ []) (λ is₃.
+          answers R.the-row told-vals (LL.tells R.the-type R′.the-laws) (‵ ftrue) w₃ (id⊢ 𝓤 _) (no-keyboard-says 𝓤 H A mem run)
+          (λ d e₃ is₃. drop ! $
           land ! (from ! (stop !)) (init ! 24 refl (LL.lawful R.the-type R′.the-laws 𝓤 H A W .typed d _ is₃ .0)) $
-          rewrite ! 24 (λ (u : Val). ‵ (fat fullShare R′.mir l₀ 0 u)) (ap only (LL.tells R.the-type R′.the-laws d _ is₃)) refl $
           move ! (27 ∷ []) $ fsplit ! $ fsplit ! $ move ! (1 ∷ []) $ fsplit ! $ move ! (3 ∷ []) $ fsplit ! $ move ! (31 ∷ []) $ split ! $
-              move ! (4 ∷ 5 ∷ 0 ∷ 1 ∷ 2 ∷ []) $
+          move ! (4 ∷ 5 ∷ 0 ∷ 1 ∷ 2 ∷ []) $
           returns ! (look ! 31 refl) $
           move ! (31 ∷ 32 ∷ 29 ∷ 30 ∷ 27 ∷ 28 ∷ 25 ∷ 26 ∷ 23 ∷ 24 ∷ 21 ∷ 22 ∷ 19 ∷ 20 ∷ 17 ∷ 18 ∷ 15 ∷ 16 ∷ 13 ∷ 14 ∷ 11 ∷ 12 ∷ 9 ∷ 10 ∷ 7
-              ∷ 8 ∷ []) $
+          ∷ 8 ∷ []) $
           leave 𝓤 H A W (locals (some _) (some _) (some _) (some _) (some _) (some _) none (some _) (some _) none none none none) _ _
-          (keep ! (0 ∷ 1 ∷ 2 ∷ 3 ∷ 4 ∷ []) $ by ! (exits ys d (subst (Is R.the-row d) (LL.tells R.the-type R′.the-laws d _ is₃) is₃) refl
-              (tells-none ys i (lent (p .now) times) (T-not (is-keyboard n i) left) ev d e₃)))))))
+          (keep ! (0 ∷ 1 ∷ 2 ∷ 3 ∷ 4 ∷ []) $ by ! (exits ys d is₃ refl (tells-none ys i lends (T-not (is-keyboard n i) left) ev d e₃)))))
 
       -- the test
-      tests : Sq W (stacked 𝓤 H A (locals none (some row-val) (some (sliceVal (p .ptr) (length (p .now))))
-          (some (LL.val TM.the-type TM′.the-laws times)) (some (vint w64 i)) (some (LL.val E.the-type E′.the-laws ev)) none none none none
-          none none none) Under) (runs C Λ E₀ mir.t-1 (atRet E₀ Post))
+      tests : Sq W (stacked 𝓤 H A (locals none (some row-val) (some list-val) (some times-val) (some (vint w64 i)) (some event-val) none
+          none none none none none none) Under) (runs C Λ E₀ mir.t-1 (atRet E₀ Post))
       tests =
           assigns ! (of-opd ! (load ! (from ! (fld ! refl (stop !))) (look-in ! 22 (sub ! 1 refl (whole !))))) (from ! (stop !))
-              (init ! 8 refl (tt, record { fits = room .0 })) $
-          nothing ! $ use1 W (raw (IsKeyboard 𝓤 H A mem run .pre to-is-keyboard)) goes-is-keyboard $
-          calls-at ! fm (IsKeyboard 𝓤 H A mem run) known-is-keyboard to-is-keyboard
-              (and-then ! (load ! (from ! (stop !)) (look ! 9 refl)) (and-then ! (load ! (from ! (stop !)) (look ! 17 refl)) (no-more !)))
-              (λ w.
-          use1 W (later (Kit.some (λ (r : Bool). (‵ ftrue ⊛ ‵ (bool .own r (w ∷ []))) ⊛ raw
-              (ensured 𝓤 H A is-keyboard′.ended (is-keyboard′.clauses 𝓤 H A mem run) tt (n, (i, tt)) tt r)))) (id⊢ 𝓤 _) $ await ! tt $
-              pick ! (λ r.
-          split ! $ move ! (1 ∷ []) $ use1 W (raw (fact 𝓤 (r ≡ is-keyboard n i))) (is-keyboard-says 𝓤 H A mem run n i r) $
-              heard ! (r ≡ is-keyboard n i) (λ e. split ! $ drop ! $ facts ! bool (Is bool) (shows 𝓤 H A bool) r (w ∷ []) (λ is.
+          (init ! 8 refl (tt, record { fits = room .0 })) $
+          nothing ! $ use1 W (raw (IsKeyboard 𝓤 H A mem run .pre (to-is-keyboard 𝓤 H A mem run n i)))
+          (goes-is-keyboard 𝓤 H A mem run n i W (room .0) i-fits) $
+          calls-at ! fm (IsKeyboard 𝓤 H A mem run) known-is-keyboard (to-is-keyboard 𝓤 H A mem run n i)
+          (and-then ! (load ! (from ! (stop !)) (look ! 9 refl)) (and-then ! (load ! (from ! (stop !)) (look ! 17 refl)) (no-more !)))
+          (λ w.
+          answers bool bool-vals bool-tells (‵ ftrue) w (id⊢ 𝓤 _) (is-keyboard-says 𝓤 H A mem run n i) (λ r e is. drop ! $
           land ! (from ! (stop !)) (init ! 10 refl (bool-lawful 𝓤 H A W .typed r _ is .0)) $
-          rewrite ! 10 (λ (u : Val). ‵ (fat fullShare tyBool l₇ 0 u)) (ap only (bool-tells r _ is) ∙ ap vbool e) refl $
+          rewrite ! 10 (λ (z : Bool). ‵ (fat fullShare tyBool l₇ 0 (vbool z))) e refl $
           first ! $ branches ! (load ! (from ! (stop !)) (look ! 10 refl))
           (λ taken. steps taken)
-          (λ left. skips ! $ exec ! C Λ _ mir.t-4 (atRet _ Post) $ refuses left)))))
+          (λ left. skips ! $ exec ! C Λ _ mir.t-4 (atRet _ Post) $ refuses left)))
 
     walk : ent 𝓤 (onEntry 𝓤 H A step-at′.signature (κ, (κ′, tt)) (q, (q′, tt)) a at)
-        (WpFn 𝓤 H C Λ code.function (sliceVal (b, o) n ∷ sliceVal (p .ptr) (length (p .now)) ∷ LL.val TM.the-type TM′.the-laws times
-        ∷ vint w64 i ∷ LL.val E.the-type E′.the-laws ev ∷ []) Post)
+        (WpFn 𝓤 H C Λ code.function (sliceVal (b, o) n ∷ list-val ∷ times-val ∷ vint w64 i ∷ event-val ∷ []) Post)
     walk =
-        qed W ((‵ (flft κ q) ⊛ ‵ (flft κ′ q′) ⊛ ‵ ftrue) ∷ ‵
-            (owns (MutSlice (named 0) κ M′ ∷ ShrSlice (named 1) κ′ u32 ∷ TM.the-row ∷ usize ∷ E.the-row ∷ []) a at) ∷ []) ∵
-            enter ! C Λ code.function (sliceVal (b, o) n ∷ sliceVal (p .ptr) (length (p .now)) ∷ LL.val TM.the-type TM′.the-laws times
-            ∷ vint w64 i ∷ LL.val E.the-type E′.the-laws ev ∷ []) _ $
+        qed W ((‵ (flft κ q) ⊛ list-token) ∷ ‵ (owns (MutSlice (named 0) κ M′ ∷ ShrSlice (named 1) κ′ u32 ∷ TM.the-row ∷ usize ∷ E.the-row
+        ∷ []) a at) ∷ []) ∵ enter ! C Λ code.function (sliceVal (b, o) n ∷ list-val ∷ times-val ∷ vint w64 i ∷ event-val ∷ []) _ $
         alloc1 ! (λ l₀. alloc1 ! (λ l₁. alloc1 ! (λ l₂. alloc1 ! (λ l₃.
-            alloc1 ! (λ l₄. alloc1 ! (λ l₅. alloc1 ! (λ l₆. alloc1 ! (λ l₇.
-            alloc1 ! (λ l₈. alloc1 ! (λ l₉. alloc1 ! (λ l₁₀. alloc1 ! (λ l₁₁. alloc1 ! (λ l₁₂. alloc0 ! $ params1 ! $
+        alloc1 ! (λ l₄. alloc1 ! (λ l₅. alloc1 ! (λ l₆. alloc1 ! (λ l₇.
+        alloc1 ! (λ l₈. alloc1 ! (λ l₉. alloc1 ! (λ l₁₀. alloc1 ! (λ l₁₁. alloc1 ! (λ l₁₂. alloc0 ! $ params1 ! $
         pass1 ! (init ! 22 refl (tt, (tt, (record { fits = room .0 }, tt)))) $
-            pass1 ! (init ! 20 refl (tt, (tt, (record { fits = p-room .0 }, tt)))) $
-            pass1 ! (init ! 18 refl (LL.lawful TM.the-type TM′.the-laws 𝓤 H A W .typed times _ times-is .0)) $
-            pass1 ! (init ! 16 refl (tt, record { fits = i-fits })) $ pass1 ! (init ! 14 refl
-            (LL.lawful E.the-type E′.the-laws 𝓤 H A W .typed ev _ ev-is .0)) $ pass0 ! $
+        pass1 ! (init ! 20 refl (tt, (tt, (record { fits = p-room .0 }, tt)))) $
+        pass1 ! (init ! 18 refl (LL.lawful TM.the-type TM′.the-laws 𝓤 H A W .typed times _ times-is .0)) $
+        pass1 ! (init ! 16 refl (tt, record { fits = i-fits })) $ pass1 ! (init ! 14 refl
+        (LL.lawful E.the-type E′.the-laws 𝓤 H A W .typed ev _ ev-is .0)) $ pass0 ! $
         tests l₀ l₁ l₂ l₃ l₄ l₅ l₆ l₇ l₈ l₉ l₁₀ l₁₁ l₁₂)))))))))))))
 
 module _ {M : Type 1} (𝓤 : URA M) (H : Heap 𝓤) (A : Atoms 𝓤) (W : Given 𝓤 H A) (mem : Memory → SProp 𝓤) (run : Routine → Fun 𝓤) where
@@ -470,27 +461,38 @@ module _ {M : Type 1} (𝓤 : URA M) (H : Heap 𝓤) (A : Atoms 𝓤) (W : Given
       → Walks 𝓤 H A step-at′.ended stayed (WpFn 𝓤 H C Λ code.function) (step-at′.clauses 𝓤 H A mem run)
   step-at-walks C Λ fm known-is-keyboard known-advance known-no-keyboard =
       walked 𝓤 H A step-at′.ended stayed (step-at′.clauses 𝓤 H A mem run) (WpFn 𝓤 H C Λ code.function)
-      (λ κs. (slice-vals, (slice-vals, (LL.vals TM.the-type TM′.the-laws, (uint-vals w64, (LL.vals E.the-type E′.the-laws, tt))))))
-          (λ κs. (mut-slice-tells (named 0) (κs .0) M′, (shr-slice-tells (named 1) (κs .1 .0) u32,
-          (LL.tells TM.the-type TM′.the-laws, (uint-tells w64, (LL.tells E.the-type E′.the-laws, tt))))))
+      (λ κs. (slice-vals, (slice-vals, (times-vals, (uint-vals w64, (event-vals, tt))))))
+      (λ κs. (
+        mut-slice-tells (named 0) (κs .0) M′,
+        (
+          shr-slice-tells (named 1) (κs .1 .0) u32,
+          (LL.tells TM.the-type TM′.the-laws, (uint-tells w64, (LL.tells E.the-type E′.the-laws, tt))),
+        ),
+      ))
       (λ κs qs bounds a g are. via 𝓤 _ (fst∗ 𝓤 _ (emp 𝓤))
-          (walk 𝓤 H A W mem run (κs .0) (κs .1 .0) (qs .0) (qs .1 .0) (a .0 .ptr .0) (a .0 .ptr .1) (a .0 .name) (a .0 .now) (a .1 .0)
-          (a .1 .1 .0) (a .1 .1 .1 .0) (a .1 .1 .1 .1 .0)
+      (walk 𝓤 H A W mem run (κs .0) (κs .1 .0) (qs .0) (qs .1 .0) (a .0 .ptr .0) (a .0 .ptr .1) (a .0 .name) (a .0 .now) (a .1 .0)
+      (a .1 .1 .0) (a .1 .1 .1 .0) (a .1 .1 .1 .1 .0)
       (are .0 .0 .1) (are .1 .0 .0 .1) (are .1 .1 .0) (are .1 .1 .1 .0 .1) (are .1 .1 .1 .1 .0) C Λ fm known-is-keyboard known-advance
-          known-no-keyboard))
+      known-no-keyboard))
 
 step-at-meets : {M : Type 1} (𝓤 : URA M) (H : Heap 𝓤) (A : Atoms 𝓤) (W : Given 𝓤 H A) (mem : Memory → SProp 𝓤) (run : Routine → Fun 𝓤)
     (𝓣 : Tables 𝓤 H)
     → Triple 𝓤 (𝓣 .C #row·is-keyboard) (IsKeyboard 𝓤 H A mem run) → Triple 𝓤 (𝓣 .C #row·advance) (Advance 𝓤 H A mem run)
-        → Triple 𝓤 (𝓣 .C #row·no-keyboard) (NoKeyboard 𝓤 H A mem run)
+    → Triple 𝓤 (𝓣 .C #row·no-keyboard) (NoKeyboard 𝓤 H A mem run)
     → Meets 𝓤 H A step-at′.signature (WpFn 𝓤 H (𝓣 .C) (𝓣 .Λ) code.function) (step-at′.spec 𝓤 H A mem run)
 step-at-meets 𝓤 H A W mem run 𝓣 known-is-keyboard known-advance known-no-keyboard =
-    walk-meets 𝓤 H A step-at′.ended stayed W
-    (goes-slice 𝓤 H A W 2 0 tt (plain (λ _. M′)), (goes-none-slice 𝓤 H A W 2 (1 ∷ []) tt (plain (λ _. u32)) yes,
-        (goes-none 𝓤 H A W 2 (λ _. TM.the-row) yes (λ κs x f. refl),
-        (goes-none 𝓤 H A W 2 (λ _. usize) yes (λ κs x f. refl), (goes-none 𝓤 H A W 2 (λ _. E.the-row) yes (λ κs x f. refl), tt)))))
+    walk-meets 𝓤 H A step-at′.ended stayed W (
+      goes-slice 𝓤 H A W 2 0 tt (plain (λ _. M′)),
+      (
+        goes-none-slice 𝓤 H A W 2 (1 ∷ []) tt (plain (λ _. u32)) yes,
+        (
+          goes-none 𝓤 H A W 2 (λ _. TM.the-row) yes (λ κs x f. refl),
+          (goes-none 𝓤 H A W 2 (λ _. usize) yes (λ κs x f. refl), (goes-none 𝓤 H A W 2 (λ _. E.the-row) yes (λ κs x f. refl), tt)),
+        ),
+      ),
+    )
     (step-at′.clauses 𝓤 H A mem run) (WpFn 𝓤 H (𝓣 .C) (𝓣 .Λ) code.function) (WpFn-mono 𝓤 H (W .laws) 𝓣 code.function)
-        (step-at-walks 𝓤 H A W mem run (𝓣 .C) (𝓣 .Λ) (fmOf 𝓤 H (W .laws) 𝓣) known-is-keyboard known-advance known-no-keyboard)
+    (step-at-walks 𝓤 H A W mem run (𝓣 .C) (𝓣 .Λ) (fmOf 𝓤 H (W .laws) 𝓣) known-is-keyboard known-advance known-no-keyboard)
 
 pub step-at-spec : {M : Type 1} → stated.statement M
 unfolding code.routine tablesOf
@@ -499,8 +501,8 @@ step-at-spec 𝓤 H 𝓜 𝓖 𝓡 =
     (tables 𝓤 H 𝓜 𝓡 code.env .C) (tables 𝓤 H 𝓜 𝓡 code.env .Λ) #own code.function (code.unfolded 𝓤 H 𝓜 𝓡)
     (step-at-meets 𝓤 H (𝓖 .A) (givenOf 𝓤 H 𝓜 𝓖) (𝓜 .mem) (𝓡 .run) (tablesOf 𝓤 H 𝓜 (tables 𝓤 H 𝓜 𝓡 code.env))
     (cited 𝓤 H (IsKeyboard 𝓤 H (𝓖 .A) (𝓜 .mem) (𝓡 .run)) 𝓜 𝓡 code.env #row·is-keyboard is-keyboard-def.routine code.calls-row·is-keyboard
-        (is-keyboard-thm.met 𝓤 H 𝓜 𝓖 𝓡))
+    (is-keyboard-thm.met 𝓤 H 𝓜 𝓖 𝓡))
     (cited 𝓤 H (Advance 𝓤 H (𝓖 .A) (𝓜 .mem) (𝓡 .run)) 𝓜 𝓡 code.env #row·advance advance-def.routine code.calls-row·advance
-        (advance-thm.met 𝓤 H 𝓜 𝓖 𝓡))
+    (advance-thm.met 𝓤 H 𝓜 𝓖 𝓡))
     (cited 𝓤 H (NoKeyboard 𝓤 H (𝓖 .A) (𝓜 .mem) (𝓡 .run)) 𝓜 𝓡 code.env #row·no-keyboard no-keyboard-def.routine code.calls-row·no-keyboard
-        (no-keyboard-thm.met 𝓤 H 𝓜 𝓖 𝓡)))
+    (no-keyboard-thm.met 𝓤 H 𝓜 𝓖 𝓡)))
