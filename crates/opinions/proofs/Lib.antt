@@ -1,2 +1,4 @@
 pub mod Examples
 pub mod Agree
+pub mod Back
+pub mod SameAsRules

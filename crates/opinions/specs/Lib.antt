@@ -1,3 +1,4 @@
 pub mod Earlier
 pub mod Opinion
+pub mod SameAsRules
 pub mod Examples
