@@ -210,6 +210,17 @@ module _ (t-s percent : ℕ) where
         → t ≡ tell i (run s S1 (e ∷ es)) → Right s n (on i free (events (e ∷ es))) t
     freed {i} e es l r = (omega arith, record { left = e ∷ es; are = refl; goes = r })
 
+    -- a thumb is set, and on behind this event
+    stays-set : {i : List Item} (O : Thumb) (o : Stamp) (es : List Stroke) {t : Told} → 2 * length (events es) + 1 < n
+        → t ≡ tell i (run s (S3 O o) es) → Right s n (on i (thumb (event 3 (number O) o)) (events es)) t
+    stays-set {i} O o es l r = (l, record { left = es; P = O; o = o; is = refl; are = refl; goes = r })
+
+    -- a thumb is given to the letter that this event presses
+    given-on : {i : List Item} (O : Thumb) (o : Stamp) (N : Key) (now : Stamp) (es : List Stroke) {t : Told}
+        → 2 * length (events es) + 3 < n → t ≡ tell i (run s (S5 O o N now) es)
+        → Right s n (on i (given (event 3 (number O) o)) (event 1 N now ∷ events es)) t
+    given-on {i} O o N now es l r = (omega arith, record { left = es; P = O; o = o; N = N; n = now; is = refl; are = refl; goes = r })
+
     module _ (O : Thumb) (o : Stamp) (M : Key) (m r : Stamp) where
       abbrev R-decides : List Event → Decision
       R-decides = released s (event 3 (number O) o) (event 1 M m) (deadline g s (S6 O o M m r))
@@ -244,12 +255,12 @@ module _ (t-s percent : ℕ) where
       unfolding matters short run one-event settle settle-in same-key second-character-takes-thumb short-overlap
       letter-first-meets (CharacterDown N) now es l q =
           either (ltb (lag o now) (lag m o))
-          (λ e. decides refl (rw (q, e) (omega arith, record { left = es; P = O; o = o; N = N; n = now; is = refl; are = refl; goes = refl })))
+          (λ e. decides refl (rw (q, e) (given-on O o N now es l refl)))
           (λ e. decides refl (rw (q, e, which-is) (freed (stroke (CharacterDown N) now) es l refl)))
       letter-first-meets (CharacterUp N) now es l q =
           either (eqb (N .0) (M .0))
           (λ e. either (short (s .j) (lag m o) (lag o now))
-          (λ h. decides (rw e) (rw (q, e, h) (omega arith, record { left = es; P = O; o = o; is = refl; are = refl; goes = refl })))
+          (λ h. decides (rw e) (rw (q, e, h) (stays-set O o es (omega arith) refl)))
           (λ h. decides (rw e) (rw (q, e, h, which-is) (freed (stroke (CharacterUp N) now) es l refl))))
           (λ e. passes (rw e) (rw e))
       letter-first-meets (ThumbDown P) now es l q =
@@ -361,7 +372,7 @@ module _ (t-s percent : ℕ) where
     unfolding run one-event settle settle-in
     free-meets (CharacterDown N) now es l = letter-alone-right N now es l
     free-meets (CharacterUp N) now es l = (omega arith, record { left = es; are = refl; goes = refl })
-    free-meets (ThumbDown P) now es l = (omega arith, record { left = es; P = P; o = now; is = refl; are = refl; goes = refl })
+    free-meets (ThumbDown P) now es l = stays-set P now es l refl
     free-meets (ThumbUp P) now es l = (omega arith, record { left = es; are = refl; goes = refl })
     free-meets FunctionDown now es l = (omega arith, record { left = es; are = refl; goes = refl })
     free-meets Tick now es l = (omega arith, record { left = es; are = refl; goes = refl })
