@@ -1,1 +1,2 @@
 pub mod OfLog
+pub mod SameAsReader

@@ -2,7 +2,7 @@
 use Prim.Native.Nat.{ℕ, zero, suc, _+_, _^_, _<_}
 use native.Mathlib.Omega.{arith}
 use borrow.Author.Tests.{eqb-true, eqb-false, eq-eqb, ne-eqb, le-ltb}
-use mathlib.Core.Bool.{Bool, true, false, not, _&&_, _||_}
+use mathlib.Core.Bool.{Bool, true, false, not, _&&_, _||_, true≢false}
 use mathlib.Core.List.{List, [], _∷_, _++_}
 use mathlib.Core.Option.{Option, none, some, Option·none-ne-some, Option·some-injective}
 use mathlib.Core.Path.{_≡_, refl, sym, ap, _∙_, subst}
@@ -188,3 +188,12 @@ module _ (g : Lent) (good : lent-good g ≡ true) (m : Machine) (before : List E
         last-is = refl;
         held-is = λ k. a .keys-held k ∙ rw (w .held-is k) (held-next e before k);
       }
+
+  -- the same of an event whose number is 0
+  pub knows-step : number-after before e ≡ 0 → Knows g (step g m e .machine) (e ∷ before)
+  knows-step h =
+      step-cases (λ (r : Answer). r ≡ step g m e → Knows g (r .machine) (e ∷ before)) g m e
+      (λ n z q.
+      let is-0 : n ≡ 0 = ap (λ (r : Answer). r .number) q ∙ number-is ∙ h in
+      absurd (true≢false (sym (eq-eqb n 0 is-0) ∙ z)))
+      knows-next refl
