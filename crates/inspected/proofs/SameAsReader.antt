@@ -1,0 +1,399 @@
+-- The second opinion on a log answers as the reader does, given enough room.
+use Prim.Native.Nat.{ℕ, _+_, _*_, _≤_, _<_}
+use native.Mathlib.Omega.{arith}
+use borrow.Author.Tests.{le-leb, lt-leb, leb-true, leb-false, eqb-true, eqb-false}
+use mathlib.Core.Bool.{Bool, true, false, not, true≢false, and-eq-true-iff}
+use mathlib.Core.List.{List, [], _∷_, _++_, append-assoc, append-nil, foldl, cons-ne-nil}
+use mathlib.Core.Logic.{_↔_, _≢_}
+use mathlib.Core.Path.{_≡_, refl, sym, ap, _∙_, subst}
+use lib.Dec.{eqb, leb, ltb}
+use lib.ListN.{length, length-append}
+use Rattle.rules.specs.Choice.{if_then_else_}
+use Rattle.rules.specs.Numbers.{largest-stamp, in-range}
+use Rattle.rules.specs.Pairs.{Pair, Lent, lent-good, no-pairs}
+use Rattle.rules.specs.States.{fresh as fresh-machine, opening}
+use Rattle.rules.specs.ZeroDelay.{signs}
+use Rattle.rules.specs.GivenBack.{Answer, step-with, step}
+use Rattle.rules.specs.Sequences.{items-in, waiting, after, along, state, items, accepted-events}
+use Rattle.rules.specs.declared.Settings.{Settings}
+use Rattle.rules.specs.declared.Machine.{Machine}
+use Rattle.rules.specs.declared.Event.{Event}
+use Rattle.rules.proofs.Choices.{both-ways, by-test, either}
+use Rattle.rules.proofs.Screen.{signs-append}
+use Rattle.keylog.specs.Records.{tag, is-settings, settings, is-event, event, is-list, list}
+use Rattle.keylog.specs.Reader.{Desk, opened, running, by-event, effect, Reading, fresh, refuse, read-record, cut-behind, is-cut, at-end}
+use Rattle.keylog.specs.Reader.{read, number-of, waiting-of}
+use Rattle.keylog.specs.LogRecords.{records-of, tail-of}
+use Rattle.keylog.proofs.Lent.{no-pairs-good, step-is}
+use Rattle.keylog.proofs.Reading.{at-desk, read-records}
+use Rattle.keylog.proofs.RecordRefusals.{record-refusals}
+use Rattle.keylog.proofs.Room.{enough-room}
+use Rattle.opinions.specs.Earlier.{allowed, last-stamp, too-many, number-after, accepted}
+use Rattle.opinions.specs.Opinion.{Told, told, opinion}
+use Rattle.opinions.proofs.Back.{Knows, knows-fresh, number-is, knows-step}
+use Rattle.opinions.proofs.SameAsRules.{same-as-rules}
+use Rattle.inspected.specs.OfLog.{Found, ends, and-event, found-at-end, find, Opined, refused, on-told, on-found, unless-pairs, behind, on-records, on-log, fitted, opined, answer-of}
+use Rattle.inspected.specs.SameAsReader.{as-read, BeginWithPairs, WithPairs, Same-as-reader}
+
+-- what reading leaves behind the words ws, at a machine m, beside what is found
+record Ends (g : Lent) (m : Machine) (ws : List ℕ) (f : Found) (y : Reading) : Type 0 where
+  words : y .words ≡ ws ++ signs (along g items-in m (f .events))
+  waits : waiting-of (y .desk) ≡ length (waiting (after g m (f .events) .resting))
+  offset : y .offset ≡ f .offset
+  number : number-of (y .refusal) ≡ f .number
+
+-- a desk that does to the first of some records what an event does at a machine
+abbrev First : Desk → Lent → Machine → List (List ℕ) → Type 0
+First d g m [] = Unit {0}
+First d g m (r ∷ rs) = effect d r ≡ by-event g m r
+
+record Ready (d : Desk) (g : Lent) (m : Machine) (rs : List (List ℕ)) : Type 0 where
+  cuts : (p : List ℕ) → is-cut d p ≡ cut-behind p
+  waits : waiting-of d ≡ length (waiting (m .resting))
+  first : First d g m rs
+
+running-ready : (g : Lent) (m : Machine) (rs : List (List ℕ)) → Ready (running g m) g m rs
+unfolding effect
+running-ready g m [] = record { cuts = λ p. refl; waits = refl; first = tt }
+running-ready g m (r ∷ rs) = record { cuts = λ p. refl; waits = refl; first = refl }
+
+-- no more records
+at-the-end : (cut : List ℕ) (d : Desk) (g : Lent) (m : Machine) (ws : List ℕ) (at : ℕ) → Ready d g m []
+    → Ends g m ws (found-at-end at cut) (at-end (record { state = at-desk d ws at; pending = cut }))
+at-the-end [] d g m ws at t = rw (t .cuts []) (record { words = sym (append-nil ws); waits = t .waits; offset = refl; number = refl })
+at-the-end (b ∷ cut) d g m ws at t =
+    rw (t .cuts (b ∷ cut)) (record { words = sym (append-nil ws); waits = t .waits; offset = refl; number = refl })
+
+module _ (room : ℕ) (cut : List ℕ) where
+  -- the rest of a log's records, and its end
+  abbrev reads : Reading → List (List ℕ) → Reading
+  reads x rs = at-end (record { state = foldl (read-record room) x rs; pending = cut })
+
+  stopped : (x : Reading) (n : ℕ) (rs : List (List ℕ)) → reads (refuse x n) rs ≡ refuse x n
+  stopped x n [] = refl
+  stopped x n (r ∷ rs) = ap (λ (y : Reading). reads y rs) (record-refusals .after room (refuse x n) n r refl) ∙ stopped x n rs
+
+  module _ (g : Lent) (good : lent-good g ≡ true) where
+    module _ (d : Desk) (m : Machine) (ws : List ℕ) (at : ℕ) (r : List ℕ) (does : effect d r ≡ by-event g m r) where
+      no-event : is-event r ≡ false → read-record room (at-desk d ws at) r ≡ refuse (at-desk d ws at) 7
+      unfolding read-record
+      no-event e = rw (does, e)
+
+      event-refused : is-event r ≡ true → (n : ℕ) → step g m (event r) .number ≡ n → eqb n 0 ≡ false
+          → read-record room (at-desk d ws at) r ≡ refuse (at-desk d ws at) n
+      unfolding read-record
+      event-refused e n q z = rw (does, e, ← step-is g good m (event r), q, z)
+
+      event-taken : is-event r ≡ true → step g m (event r) .number ≡ 0
+          → length ws + length (signs (step g m (event r) .items)) ≤ room
+          → read-record room (at-desk d ws at) r
+          ≡ at-desk (running g (step g m (event r) .machine)) (ws ++ signs (step g m (event r) .items)) (at + length r)
+      unfolding read-record
+      event-taken e q fits = rw (does, e, ← step-is g good m (event r), q, le-leb _ _ fits)
+
+    abbrev Claim : Desk → Machine → List ℕ → ℕ → List (List ℕ) → Found → Type 0
+    Claim d m ws at rs f =
+        length ws + length (signs (along g items-in m (f .events))) ≤ room → Ends g m ws f (reads (at-desk d ws at) rs)
+
+    -- a record that is refused ends it all
+    stops : (d : Desk) (m : Machine) (ws : List ℕ) (at : ℕ) (r : List ℕ) (rs : List (List ℕ)) → Ready d g m (r ∷ rs)
+        → (n : ℕ) → read-record room (at-desk d ws at) r ≡ refuse (at-desk d ws at) n → Claim d m ws at (r ∷ rs) (ends n at)
+    stops d m ws at r rs t n q fit =
+        subst (Ends g m ws (ends n at)) (sym (ap (λ (y : Reading). reads y rs) q ∙ stopped (at-desk d ws at) n rs))
+        (record { words = sym (append-nil ws); waits = t .waits; offset = refl; number = refl })
+
+    finds : (d : Desk) (m : Machine) (before : List Event) (ws : List ℕ) (at : ℕ) (rs : List (List ℕ)) → Knows g m before
+        → Ready d g m rs → Claim d m ws at rs (find before at rs cut)
+    unfolding find
+    finds d m before ws at [] w t = λ fit. at-the-end cut d g m ws at t
+    finds d m before ws at (r ∷ rs) w t =
+        let e = event r in
+        let same : step g m e .number ≡ number-after before e = number-is g good m before w e in
+        by-test (Claim d m ws at (r ∷ rs)) (is-event r)
+        (λ ev. by-test (Claim d m ws at (r ∷ rs)) (eqb (number-after before e) 0)
+        (λ z fit.
+        let is-0 : number-after before e ≡ 0 = eqb-true _ _ z in
+        let next = step g m e .machine in
+        let new = signs (step g m e .items) in
+        let f = find (e ∷ before) (at + length r) rs cut in
+        let all : signs (along g items-in m (e ∷ f .events)) ≡ new ++ signs (along g items-in next (f .events)) =
+        signs-append (step g m e .items) (along g items-in next (f .events)) in
+        let whole : length ws + length (new ++ signs (along g items-in next (f .events))) ≤ room = rw all at fit in
+        let more = finds (running g next) next (e ∷ before) (ws ++ new) (at + length r) rs (knows-step g good m before w e is-0)
+        (running-ready g next rs)
+        (omega (arith, length-append new (signs (along g items-in next (f .events))), length-append ws new)) in
+        let here = event-taken d m ws at r (t .first) ev (same ∙ is-0)
+        (omega (arith, length-append new (signs (along g items-in next (f .events))))) in
+        subst (Ends g m ws (and-event e f)) (sym (ap (λ (y : Reading). reads y rs) here))
+        (record { words = more .words ∙ rw (all, append-assoc); waits = more .waits; offset = more .offset; number = more .number }))
+        (λ z. stops d m ws at r rs t (number-after before e) (event-refused d m ws at r (t .first) ev (number-after before e) same z)))
+        (λ ev. stops d m ws at r rs t 7 (no-event d m ws at r (t .first) ev))
+
+-- Of what is found: all of it is accepted, and neither 8 nor 14 ends it.
+abbrev Ordinary : ℕ → Type 0
+Ordinary n = (n ≢ 8) × (n ≢ 14)
+
+ordinary : (n : ℕ) → eqb n 8 ≡ false → eqb n 14 ≡ false → Ordinary n
+ordinary n a b = (eqb-false n 8 a, eqb-false n 14 b)
+
+ordinary-number : (before : List Event) (e : Event) → Ordinary (number-after before e)
+unfolding number-after
+ordinary-number before e =
+    both-ways Ordinary (not (allowed e)) (ordinary 3 refl refl)
+    (both-ways Ordinary (ltb largest-stamp (e .stamp .0)) (ordinary 4 refl refl)
+    (both-ways Ordinary (ltb (e .stamp .0) (last-stamp before)) (ordinary 5 refl refl)
+    (both-ways Ordinary (too-many before e) (ordinary 11 refl refl) (ordinary 0 refl refl))))
+
+module _ (cut : List ℕ) where
+  found-accepted : (before : List Event) (at : ℕ) (rs : List (List ℕ))
+      → accepted before (find before at rs cut .events) ≡ find before at rs cut .events
+  unfolding find accepted
+  found-accepted before at [] = none-found cut
+    where
+      none-found : (c : List ℕ) → accepted before (found-at-end at c .events) ≡ found-at-end at c .events
+      none-found [] = refl
+      none-found (b ∷ c) = refl
+  found-accepted before at (r ∷ rs) =
+      let Same : Found → Type 0 = λ f. accepted before (f .events) ≡ f .events in
+      both-ways Same (is-event r)
+      (by-test Same (eqb (number-after before (event r)) 0)
+      (λ z. rw z (ap (λ (l : List Event). event r ∷ l) (found-accepted (event r ∷ before) (at + length r) rs)))
+      (λ _. refl))
+      refl
+
+  found-ordinary : (before : List Event) (at : ℕ) (rs : List (List ℕ)) → Ordinary (find before at rs cut .number)
+  unfolding find
+  found-ordinary before at [] = none-found cut
+    where
+      none-found : (c : List ℕ) → Ordinary (found-at-end at c .number)
+      none-found [] = ordinary 0 refl refl
+      none-found (b ∷ c) = ordinary 6 refl refl
+  found-ordinary before at (r ∷ rs) =
+      let Good : Found → Type 0 = λ f. Ordinary (f .number) in
+      both-ways Good (is-event r)
+      (both-ways Good (eqb (number-after before (event r)) 0) (found-ordinary (event r ∷ before) (at + length r) rs)
+      (ordinary-number before (event r)))
+      (ordinary 7 refl refl)
+
+-- Without pairs: the answer on what is found is the reader's.
+module _ (room : ℕ) (cut : List ℕ) (t n : ℕ) (good : lent-good (record { pairs = []; t-s = t; n = n }) ≡ true) where
+  abbrev g : Lent
+  g = record { pairs = []; t-s = t; n = n }
+
+  module _ (s : Settings) (range : in-range s ≡ true) (d : Desk) (at : ℕ) (rs : List (List ℕ)) where
+    abbrev f : Found
+    f = find [] at rs cut
+
+    is-told : opinion s (f .events) ≡ told (items g s (f .events)) (waiting (state g s (f .events) .resting))
+    is-told =
+        let same = same-as-rules t n good s range (f .events) in
+        ap (opinion s) (sym (found-accepted cut [] at rs) ∙ same .same-events) ∙ same .same-told
+
+    answers : Ready d g (fresh-machine s) rs → length (on-found s f .words) ≤ room
+        → as-read (reads room cut (at-desk d [] at) rs) ≡ on-found s f
+    answers ready fit =
+        let fits : length (signs (items g s (f .events))) ≤ room = rw is-told at fit in
+        let e = finds room cut g good d (fresh-machine s) [] [] at rs (knows-fresh g s range) ready (omega arith) in
+        (λ i. record { number = e .number i; words = e .words i; offset = e .offset i; waiting = e .waits i })
+        ∙ ap (on-told f) (sym is-told)
+
+-- An answer o on records and what is cut behind them: the reader's, where there is room for its words; or there are pairs.
+data Compared (rs : List (List ℕ)) (cut : List ℕ) (o : Opined) : Type 0 where
+  as-reader : (¬ BeginWithPairs rs) → Ordinary (o .number)
+      → ((room : ℕ) → length (o .words) ≤ room → as-read (reads room cut fresh rs) ≡ o) → Compared rs cut o
+  with-pairs : BeginWithPairs rs → o ≡ refused 14 8 → Compared rs cut o
+
+-- nothing but a number
+refused-first : (r : List ℕ) (rs : List (List ℕ)) (cut : List ℕ) (n : ℕ) → Ordinary n → (¬ BeginWithPairs (r ∷ rs))
+    → ((room : ℕ) → read-record room fresh r ≡ refuse fresh n) → Compared (r ∷ rs) cut (refused n 0)
+refused-first r rs cut n o never q =
+    as-reader never o (λ room fit. ap as-read (ap (λ (y : Reading). reads room cut y rs) (q room) ∙ stopped room cut fresh n rs))
+
+not-settings : (r : List ℕ) (rs : List (List ℕ)) → is-settings r ≡ false → ¬ BeginWithPairs (r ∷ rs)
+not-settings r [] e p = p
+not-settings r (q ∷ rs) e p = true≢false (sym (p .0) ∙ e)
+
+not-in-range : (r : List ℕ) (rs : List (List ℕ)) → in-range (settings r) ≡ false → ¬ BeginWithPairs (r ∷ rs)
+not-in-range r [] e p = p
+not-in-range r (q ∷ rs) e p = true≢false (sym (p .1) ∙ e)
+
+settings-length : (r : List ℕ) → is-settings r ≡ true → length r ≡ 8
+unfolding is-settings
+settings-length r e = eqb-true (length r) 8 (and-eq-true-iff (eqb (tag r) 1) (eqb (length r) 8) .0 e .1)
+
+-- behind settings in range
+module _ (r : List ℕ) (cut : List ℕ) (is-first : is-settings r ≡ true) (range : in-range (settings r) ≡ true) where
+  abbrev s : Settings
+  s = settings r
+
+  abbrev m : Machine
+  m = fresh-machine s
+
+  opens : (room : ℕ) → read-record room fresh r ≡ at-desk (opened m) [] (length r)
+  unfolding read-record effect opening
+  opens room =
+      let size : 0 + length r ≡ length r = omega arith in
+      rw (is-first, range, le-leb 0 room (omega arith), size)
+
+  behind-opened : (room : ℕ) (rs : List (List ℕ)) → reads room cut fresh (r ∷ rs) ≡ reads room cut (at-desk (opened m) [] (length r)) rs
+  behind-opened room rs = ap (λ (y : Reading). reads room cut y rs) (opens room)
+
+  -- events at once
+  events-behind : (rs : List (List ℕ)) → (¬ BeginWithPairs (r ∷ rs)) → Ready (opened m) no-pairs m rs
+      → Compared (r ∷ rs) cut (on-found s (find [] (length r) rs cut))
+  events-behind rs never t =
+      as-reader never (found-ordinary cut [] (length r) rs)
+      (λ room fit. ap as-read (behind-opened room rs) ∙ answers room cut 50 1 no-pairs-good s range (opened m) (length r) rs t fit)
+
+  module _ (q : List ℕ) (rs : List (List ℕ)) where
+    no-list : is-list q ≡ false → Compared (r ∷ (q ∷ rs)) cut (on-found s (find [] (length r) (q ∷ rs) cut))
+    unfolding effect
+    no-list e =
+        events-behind (q ∷ rs) (λ p. true≢false (sym (p .2) ∙ e)) (record { cuts = λ p. refl; waits = refl; first = rw e })
+
+    module _ (is-second : is-list q ≡ true) where
+      refuses : lent-good (list q) ≡ false → (room : ℕ)
+          → read-record room (at-desk (opened m) [] (length r)) q ≡ refuse (at-desk (opened m) [] (length r)) 12
+      unfolding read-record effect
+      refuses e room = rw (is-second, e)
+
+      bad-list : lent-good (list q) ≡ false → Compared (r ∷ (q ∷ rs)) cut (refused 12 (length r))
+      bad-list e =
+          as-reader (λ p. true≢false (sym (p .3) ∙ e)) (ordinary 12 refl refl)
+          (λ room fit.
+          ap as-read (behind-opened room (q ∷ rs) ∙ ap (λ (y : Reading). reads room cut y rs) (refuses e room)
+          ∙ stopped room cut (at-desk (opened m) [] (length r)) 12 rs))
+
+      module _ (good : lent-good (list q) ≡ true) where
+        abbrev answer : Opined
+        answer = on-found s (find [] (length r + length q) rs cut)
+
+        lends : (room : ℕ) → read-record room (at-desk (opened m) [] (length r)) q ≡ at-desk (running (list q) m) [] (length r + length q)
+        unfolding read-record effect
+        lends room = rw (is-second, good, le-leb 0 room (omega arith))
+
+        -- a list of no pairs
+        empty-list : list q .pairs ≡ [] → (room : ℕ) → length (answer .words) ≤ room
+            → as-read (reads room cut (at-desk (running (list q) m) [] (length r + length q)) rs) ≡ answer
+        empty-list e room fit =
+            let h : Lent = record { pairs = []; t-s = list q .t-s; n = list q .n } in
+            let same : list q ≡ h = λ i. record { pairs = e i; t-s = list q .t-s; n = list q .n } in
+            subst (λ (k : Lent). as-read (reads room cut (at-desk (running k m) [] (length r + length q)) rs) ≡ answer) (sym same)
+            (answers room cut (list q .t-s) (list q .n) (ap lent-good (sym same) ∙ good) s range (running h m) (length r + length q) rs
+            (running-ready h m rs) fit)
+
+        by-pairs : (ps : List Pair) → list q .pairs ≡ ps → Compared (r ∷ (q ∷ rs)) cut (unless-pairs ps (length r) answer)
+        by-pairs [] e =
+            as-reader (λ p. p .4 e) (found-ordinary cut [] (length r + length q) rs)
+            (λ room fit.
+            ap as-read (behind-opened room (q ∷ rs) ∙ ap (λ (y : Reading). reads room cut y rs) (lends room)) ∙ empty-list e room fit)
+        by-pairs (p ∷ ps) e =
+            with-pairs (is-first, range, is-second, good, λ z. cons-ne-nil p ps (sym e ∙ z)) (rw (settings-length r is-first))
+
+  behind-compared : (rs : List (List ℕ)) → Compared (r ∷ rs) cut (behind s (length r) rs cut)
+  behind-compared [] = events-behind [] (λ p. p) (record { cuts = λ p. refl; waits = refl; first = tt })
+  behind-compared (q ∷ rs) =
+      by-test (Compared (r ∷ (q ∷ rs)) cut) (is-list q)
+      (λ l. by-test (Compared (r ∷ (q ∷ rs)) cut) (lent-good (list q)) (λ good. by-pairs q rs l good (list q .pairs) refl) (bad-list q rs l))
+      (no-list q rs)
+
+first-not-settings : (r : List ℕ) → is-settings r ≡ false → (room : ℕ) → read-record room fresh r ≡ refuse fresh 7
+unfolding read-record effect
+first-not-settings r e room = rw e
+
+first-out-of-range : (r : List ℕ) → is-settings r ≡ true → in-range (settings r) ≡ false → (room : ℕ)
+    → read-record room fresh r ≡ refuse fresh 1
+unfolding read-record effect opening
+first-out-of-range r e f room = rw (e, f)
+
+compared : (rs : List (List ℕ)) (cut : List ℕ) → Compared rs cut (on-records rs cut)
+compared [] cut = as-reader (λ p. p) (ordinary 6 refl refl) (λ room fit. refl)
+compared (r ∷ rs) cut =
+    by-test (Compared (r ∷ rs) cut) (is-settings r)
+    (λ e. by-test (Compared (r ∷ rs) cut) (in-range (settings r))
+    (λ range. behind-compared r cut e range rs)
+    (λ f. refused-first r rs cut 1 (ordinary 1 refl refl) (not-in-range r rs f) (first-out-of-range r e f)))
+    (λ e. refused-first r rs cut 7 (ordinary 7 refl refl) (not-settings r rs e) (first-not-settings r e))
+
+-- The answer with a run of some room.
+module _ (room : ℕ) (log : List ℕ) where
+  -- what is compared is the reader's
+  reader-is : read room log ≡ reads room (tail-of log) fresh (records-of log)
+  reader-is = read-records room log
+
+  fits : length (on-log log .words) ≤ room → opined room log ≡ on-log log
+  unfolding opined
+  fits h = rw (le-leb _ _ h)
+
+  does-not-fit : room < length (on-log log .words) → opined room log ≡ refused 8 0
+  unfolding opined
+  does-not-fit h = rw (lt-leb (length (on-log log .words)) room h)
+
+log-compared : (log : List ℕ) → Compared (records-of log) (tail-of log) (on-log log)
+unfolding on-log
+log-compared log = compared (records-of log) (tail-of log)
+
+same : (room : ℕ) (log : List ℕ) → (¬ WithPairs log) → length (on-log log .words) ≤ room → opined room log ≡ as-read (read room log)
+same room log never h = go (log-compared log)
+  where
+    go : Compared (records-of log) (tail-of log) (on-log log) → opined room log ≡ as-read (read room log)
+    go (as-reader _ _ q) = fits room log h ∙ sym (ap as-read (reader-is room log) ∙ q room h)
+    go (with-pairs p _) = absurd (never p)
+
+pairs-refused : (room : ℕ) (log : List ℕ) → WithPairs log → opined room log ≡ refused 14 8
+pairs-refused room log p = go (log-compared log)
+  where
+    go : Compared (records-of log) (tail-of log) (on-log log) → opined room log ≡ refused 14 8
+    go (as-reader never _ _) = absurd (never p)
+    go (with-pairs _ q) =
+        let none : length (on-log log .words) ≡ 0 = ap (λ (o : Opined). length (o .words)) q in
+        fits room log (omega arith) ∙ q
+
+-- a number that is 8 or 14 is not that of an answer with room
+by-room : (room : ℕ) (log : List ℕ) {X : Type 0} → (opined room log ≡ on-log log → X)
+    → (room < length (on-log log .words) → opined room log ≡ refused 8 0 → X) → X
+by-room room log yes-way no-way =
+    either (leb (length (on-log log .words)) room)
+    (λ e. yes-way (fits room log (leb-true _ _ e)))
+    (λ e. let h = leb-false (length (on-log log .words)) room e in no-way h (does-not-fit room log h))
+
+number : {o p : Opined} → o ≡ p → o .number ≡ p .number
+number q = ap (λ (o : Opined). o .number) q
+
+14-means-pairs : (room : ℕ) (log : List ℕ) → opined room log .number ≡ 14 → WithPairs log
+14-means-pairs room log h = by-room room log (λ q. go (log-compared log) (sym (number q) ∙ h)) (λ _ q. absurd (eqb-false 8 14 refl (sym (number q) ∙ h)))
+  where
+    go : Compared (records-of log) (tail-of log) (on-log log) → on-log log .number ≡ 14 → WithPairs log
+    go (as-reader _ o _) k = absurd (o .1 k)
+    go (with-pairs p _) k = p
+
+8-means-no-room : (room : ℕ) (log : List ℕ) → opined room log .number ≡ 8 → room < length (on-log log .words)
+8-means-no-room room log h = by-room room log (λ q. absurd (go (log-compared log) (sym (number q) ∙ h))) (λ less _. less)
+  where
+    go : Compared (records-of log) (tail-of log) (on-log log) → on-log log .number ≢ 8
+    go (as-reader _ o _) k = o .0 k
+    go (with-pairs _ q) k = eqb-false 14 8 refl (sym (number q) ∙ k)
+
+words-length : (log : List ℕ) → 13 * length (on-log log .words) ≤ 2 * length log
+words-length log = go (log-compared log)
+  where
+    go : Compared (records-of log) (tail-of log) (on-log log) → 13 * length (on-log log .words) ≤ 2 * length log
+    go (as-reader _ _ q) =
+        let room = length (on-log log .words) + 2 * length log in
+        let e : length (read room log .words) ≡ length (on-log log .words) =
+        ap (λ (o : Opined). length (o .words)) (ap as-read (reader-is room log) ∙ q room (omega arith)) in
+        omega (arith, e, enough-room room log (omega arith) .words)
+    go (with-pairs _ q) =
+        let none : length (on-log log .words) ≡ 0 = ap (λ (o : Opined). length (o .words)) q in omega arith
+
+pub same-as-reader : Same-as-reader
+same-as-reader room log =
+    record {
+      same = same room log;
+      same-answer = λ never h. ap answer-of (same room log never h);
+      words-length = words-length log;
+      pairs-refused = pairs-refused room log;
+      gives-14 = (14-means-pairs room log, λ p. number (pairs-refused room log p));
+      gives-8 = (8-means-no-room room log, λ h. number (does-not-fit room log h));
+      refused-8 = λ h. does-not-fit room log (8-means-no-room room log h);
+    }
