@@ -1,1 +1,2 @@
 pub mod SameAsReader
+pub mod Examples

@@ -2,19 +2,18 @@
 use Prim.Native.Nat.{ℕ, _+_, _*_, _≤_, _<_}
 use native.Mathlib.Omega.{arith}
 use borrow.Author.Tests.{le-leb, lt-leb, leb-true, leb-false, eqb-true, eqb-false}
-use mathlib.Core.Bool.{Bool, true, false, not, true≢false, and-eq-true-iff}
+use mathlib.Core.Bool.{true, false, not, true≢false, and-eq-true-iff}
 use mathlib.Core.List.{List, [], _∷_, _++_, append-assoc, append-nil, foldl, cons-ne-nil}
-use mathlib.Core.Logic.{_↔_, _≢_}
+use mathlib.Core.Logic.{_≢_}
 use mathlib.Core.Path.{_≡_, refl, sym, ap, _∙_, subst}
 use lib.Dec.{eqb, leb, ltb}
 use lib.ListN.{length, length-append}
-use Rattle.rules.specs.Choice.{if_then_else_}
 use Rattle.rules.specs.Numbers.{largest-stamp, in-range}
 use Rattle.rules.specs.Pairs.{Pair, Lent, lent-good, no-pairs}
 use Rattle.rules.specs.States.{fresh as fresh-machine, opening}
 use Rattle.rules.specs.ZeroDelay.{signs}
-use Rattle.rules.specs.GivenBack.{Answer, step-with, step}
-use Rattle.rules.specs.Sequences.{items-in, waiting, after, along, state, items, accepted-events}
+use Rattle.rules.specs.GivenBack.{step}
+use Rattle.rules.specs.Sequences.{items-in, waiting, after, along, state, items}
 use Rattle.rules.specs.declared.Settings.{Settings}
 use Rattle.rules.specs.declared.Machine.{Machine}
 use Rattle.rules.specs.declared.Event.{Event}
@@ -29,10 +28,11 @@ use Rattle.keylog.proofs.Reading.{at-desk, read-records}
 use Rattle.keylog.proofs.RecordRefusals.{record-refusals}
 use Rattle.keylog.proofs.Room.{enough-room}
 use Rattle.opinions.specs.Earlier.{allowed, last-stamp, too-many, number-after, accepted}
-use Rattle.opinions.specs.Opinion.{Told, told, opinion}
+use Rattle.opinions.specs.Opinion.{told, opinion}
 use Rattle.opinions.proofs.Back.{Knows, knows-fresh, number-is, knows-step}
 use Rattle.opinions.proofs.SameAsRules.{same-as-rules}
-use Rattle.inspected.specs.OfLog.{Found, ends, and-event, found-at-end, find, Opined, refused, on-told, on-found, unless-pairs, behind, on-records, on-log, fitted, opined, answer-of}
+use Rattle.inspected.specs.OfLog.{Found, ends, and-event, found-at-end, find, Opined, refused, on-told, on-found}
+use Rattle.inspected.specs.OfLog.{unless-pairs, behind, on-records, on-log, opined, answer-of}
 use Rattle.inspected.specs.SameAsReader.{as-read, BeginWithPairs, WithPairs, Same-as-reader}
 
 -- what reading leaves behind the words ws, at a machine m, beside what is found
@@ -294,7 +294,8 @@ module _ (r : List ℕ) (cut : List ℕ) (is-first : is-settings r ≡ true) (ra
   behind-compared [] = events-behind [] (λ p. p) (record { cuts = λ p. refl; waits = refl; first = tt })
   behind-compared (q ∷ rs) =
       by-test (Compared (r ∷ (q ∷ rs)) cut) (is-list q)
-      (λ l. by-test (Compared (r ∷ (q ∷ rs)) cut) (lent-good (list q)) (λ good. by-pairs q rs l good (list q .pairs) refl) (bad-list q rs l))
+      (λ l.
+      by-test (Compared (r ∷ (q ∷ rs)) cut) (lent-good (list q)) (λ good. by-pairs q rs l good (list q .pairs) refl) (bad-list q rs l))
       (no-list q rs)
 
 first-not-settings : (r : List ℕ) → is-settings r ≡ false → (room : ℕ) → read-record room fresh r ≡ refuse fresh 7
@@ -361,7 +362,8 @@ number : {o p : Opined} → o ≡ p → o .number ≡ p .number
 number q = ap (λ (o : Opined). o .number) q
 
 14-means-pairs : (room : ℕ) (log : List ℕ) → opined room log .number ≡ 14 → WithPairs log
-14-means-pairs room log h = by-room room log (λ q. go (log-compared log) (sym (number q) ∙ h)) (λ _ q. absurd (eqb-false 8 14 refl (sym (number q) ∙ h)))
+14-means-pairs room log h =
+    by-room room log (λ q. go (log-compared log) (sym (number q) ∙ h)) (λ _ q. absurd (eqb-false 8 14 refl (sym (number q) ∙ h)))
   where
     go : Compared (records-of log) (tail-of log) (on-log log) → on-log log .number ≡ 14 → WithPairs log
     go (as-reader _ o _) k = absurd (o .1 k)

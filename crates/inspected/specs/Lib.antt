@@ -1,2 +1,3 @@
 pub mod OfLog
 pub mod SameAsReader
+pub mod Examples

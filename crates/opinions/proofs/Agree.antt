@@ -1,7 +1,7 @@
 -- Looking forward and deciding gives what the rules commit, and what they leave waiting, over events as they act.
 use Prim.Native.Nat.{ℕ, zero, suc, _+_, _*_, _<_}
 use native.Mathlib.Omega.{arith}
-use mathlib.Core.Bool.{Bool, true, false, _&&_, _||_}
+use mathlib.Core.Bool.{true, false}
 use mathlib.Core.List.{List, [], _∷_, _++_, append-assoc}
 use mathlib.Core.Option.{Option, none, some}
 use mathlib.Core.Path.{_≡_, refl, sym, ap, _∙_}
@@ -27,9 +27,9 @@ use Rattle.rules.specs.declared.Input.the-variants.{CharacterDown, CharacterUp,
 use Rattle.rules.proofs.Choices.{either}
 use Rattle.rules.proofs.Late.{settle-once}
 use Rattle.opinions.specs.Earlier.{is}
-use Rattle.opinions.specs.Opinion.{matters, late, ahead, short, Set, free, thumb, given, Decision, over, on, after, which, mark}
-use Rattle.opinions.specs.Opinion.{released, letter-first, from-letter-first, thumb-first, from-thumb-first, letter-alone, from-letter}
-use Rattle.opinions.specs.Opinion.{thumb-alone, decide, Told, told, tell, follow, from}
+use Rattle.opinions.specs.Opinion.{matters, late, ahead, short, Set, free, thumb, given, Decision, over, on, after, which}
+use Rattle.opinions.specs.Opinion.{released, letter-first, from-letter-first, thumb-first, from-thumb-first, letter-alone}
+use Rattle.opinions.specs.Opinion.{from-letter, thumb-alone, decide, Told, told, tell, follow, from}
 
 -- what acts: an input and its stamp
 pub record Stroke : Type 0 where
@@ -199,7 +199,8 @@ module _ (t-s percent : ℕ) where
     looks N ends lates meets (e ∷ es) l =
         either (late (deadline g s x) (event-of (e .input) (e .stamp)))
         (λ q.
-        rw (settle-once g s (e .stamp) x, ← (late-is (deadline g s x) (event-of (e .input) (e .stamp))), q, settled s x e es) (lates (e .input) (e .stamp) es (omega arith) q))
+        rw (settle-once g s (e .stamp) x, ← (late-is (deadline g s x) (event-of (e .input) (e .stamp))), q, settled s x e es)
+        (lates (e .input) (e .stamp) es (omega arith) q))
         (λ q.
         rw (settle-once g s (e .stamp) x, ← (late-is (deadline g s x) (event-of (e .input) (e .stamp))), q)
         (met (e .input) (e .stamp) es (meets (e .input) (e .stamp) es (omega arith) q) (looks N ends lates meets es (omega arith))))
@@ -295,8 +296,8 @@ module _ (t-s percent : ℕ) where
           either (same-thumb P O) (λ e. passes (rw (same-is, e)) (rw e))
           (λ e. either (leb (lag m now) (lag o m))
           (λ h. decides (rw (same-is, e)) (rw (q, e, h, which-is)
-          (right-after s n (rule-mark s O) (from-letter-first s (event 1 M m) (event 3 (number P) now) (events es)) (run s (S4 M m P now) es)
-          (letter-first-right M m P now es (omega arith)))))
+          (right-after s n (rule-mark s O) (from-letter-first s (event 1 M m) (event 3 (number P) now) (events es))
+          (run s (S4 M m P now) es) (letter-first-right M m P now es (omega arith)))))
           (λ h. decides (rw (same-is, e)) (rw (q, e, h, which-is) (freed (stroke (ThumbDown P) now) es l refl))))
       thumb-first-meets (ThumbUp P) now es l q =
           either (same-thumb P O)
@@ -395,13 +396,15 @@ module _ (t-s percent : ℕ) where
   follows s zero i h es t l r = absurd (omega arith)
   follows s (suc n) i free es t l r =
       let k : 2 * length (events (r .left)) < suc n = rw (r .are) at l in
-      r .goes ∙ rw (r .are) (follows-decision s n (follows s n) i (decide s free (events (r .left))) (run s S1 (r .left)) (free-right s n (r .left) k))
+      r .goes
+      ∙ rw (r .are)
+      (follows-decision s n (follows s n) i (decide s free (events (r .left))) (run s S1 (r .left)) (free-right s n (r .left) k))
   follows s (suc n) i (thumb O) es t l r =
       let k : 2 * length (events (r .left)) + 1 < suc n = rw (r .are) at l in
       r .goes
       ∙ rw (r .are, r .is)
-      (follows-decision s n (follows s n) i (decide s (thumb (event 3 (number (r .P)) (r .o))) (events (r .left))) (run s (S3 (r .P) (r .o)) (r .left))
-      (thumb-right s n (r .P) (r .o) (r .left) k))
+      (follows-decision s n (follows s n) i (decide s (thumb (event 3 (number (r .P)) (r .o))) (events (r .left)))
+      (run s (S3 (r .P) (r .o)) (r .left)) (thumb-right s n (r .P) (r .o) (r .left) k))
   follows s (suc n) i (given O) es t l r =
       let k : 2 * length (event 1 (r .N) (r .n) ∷ events (r .left)) + 1 < suc n = rw (r .are) at l in
       r .goes
@@ -412,4 +415,6 @@ module _ (t-s percent : ℕ) where
   -- from the first place, with two decisions for each event, and one
   pub agrees : (s : Settings) (es : List Stroke) → from s (suc (2 * length (events es))) free (events es) ≡ run s S1 es
   agrees s es =
-      sym (follows s (suc (2 * length (events es))) [] free (events es) (run s S1 es) (omega arith) (record { left = es; are = refl; goes = refl }))
+      sym
+      (follows s (suc (2 * length (events es))) [] free (events es) (run s S1 es) (omega arith)
+      (record { left = es; are = refl; goes = refl }))

@@ -1,20 +1,20 @@
 -- What the events before one say is what a machine knows that took them: the number of the event, and as what it acts.
-use Prim.Native.Nat.{ℕ, zero, suc, _+_, _^_, _<_}
+use Prim.Native.Nat.{ℕ, zero, suc, _^_, _<_}
 use native.Mathlib.Omega.{arith}
 use borrow.Author.Tests.{eqb-true, eqb-false, eq-eqb, ne-eqb, le-ltb}
-use mathlib.Core.Bool.{Bool, true, false, not, _&&_, _||_, true≢false}
-use mathlib.Core.List.{List, [], _∷_, _++_}
+use mathlib.Core.Bool.{Bool, true, false, _&&_, _||_, true≢false}
+use mathlib.Core.List.{List, [], _∷_}
 use mathlib.Core.Option.{Option, none, some, Option·none-ne-some, Option·some-injective}
 use mathlib.Core.Path.{_≡_, refl, sym, ap, _∙_, subst}
 use lib.Dec.{eqb, ltb}
 use lib.ListN.{length, length-append}
 use Rattle.rules.specs.Choice.{if_then_else_}
-use Rattle.rules.specs.Numbers.{keys, largest-stamp, most-held, in-range}
+use Rattle.rules.specs.Numbers.{keys, largest-stamp, in-range}
 use Rattle.rules.specs.Held.{is-held, held-below as keys-below, held-keys, how-many}
 use Rattle.rules.specs.Pairs.{Lent, lent-good, same-key}
 use Rattle.rules.specs.States.{fresh, is-key, well-formed}
-use Rattle.rules.specs.GivenBack.{with-character, with-thumb, with-0, input, acts-as, held-after, Verdict, refused, is-new, too-many as too-many-for, judge-input, judge}
-use Rattle.rules.specs.GivenBack.{accepted as accepted-as, Answer, refusal, answer, step-with, step}
+use Rattle.rules.specs.GivenBack.{with-character, with-thumb, with-0, input, acts-as, is-new, too-many as too-many-for, judge-input, judge}
+use Rattle.rules.specs.GivenBack.{refused, accepted as accepted-as, Answer, answer, step-with, step}
 use Rattle.rules.specs.HeldRules.{held-then}
 use Rattle.rules.specs.declared.Stamp.{Stamp}
 use Rattle.rules.specs.declared.Key.{Key}
@@ -23,11 +23,11 @@ use Rattle.rules.specs.declared.Machine.{Machine}
 use Rattle.rules.specs.declared.Event.{Event}
 use Rattle.rules.specs.declared.Input.{Input}
 use Rattle.rules.specs.declared.Input.the-variants.{CharacterDown, CharacterUp, ThumbDown, ThumbUp, FunctionDown, Tick}
-use Rattle.rules.proofs.Choices.{both-ways, by-test, either}
+use Rattle.rules.proofs.Choices.{by-test, either}
 use Rattle.rules.proofs.Held.{none-held, counts-keys}
 use Rattle.rules.proofs.Steps.{Accepted, taken, machine-formed, step-cases}
 use Rattle.rules.proofs.Formed.{stays-formed, sequence-facts}
-use Rattle.opinions.specs.Earlier.{held, tick-at, heard-as, allowed, last-stamp, held-below, too-many, number-after}
+use Rattle.opinions.specs.Earlier.{held, heard-as, allowed, last-stamp, held-below, number-after}
 use Rattle.opinions.proofs.Agree.{key, kind-of, key-of, event, event-of}
 
 -- An event's kind and key are allowed exactly where they give an input, and then they are that input's.
@@ -173,7 +173,8 @@ module _ (g : Lent) (good : lent-good g ≡ true) (m : Machine) (before : List E
   pub heard-of : (i : Input) → Accepted g m e i → heard-as before e ≡ event-of (acts-as (m .held) i) (e .stamp)
   heard-of i a = go (input (e .kind) (e .key)) (named (e .kind) (e .key) (e .stamp)) (a .is-input)
     where
-      go : (o : Option Input) → Named (e .kind) (e .key) (e .stamp) o → o ≡ some i → heard-as before e ≡ event-of (acts-as (m .held) i) (e .stamp)
+      go : (o : Option Input) → Named (e .kind) (e .key) (e .stamp) o → o ≡ some i
+          → heard-as before e ≡ event-of (acts-as (m .held) i) (e .stamp)
       go none n h = absurd (Option·none-ne-some i h)
       go (some j) (input-is a b c) h =
           ap (heard-as before) (is-event-of e j b c)

@@ -1,26 +1,21 @@
 -- The second opinion on a sequence of events is what the rules commit, and what they leave waiting.
-use Prim.Native.Nat.{ℕ, suc, _*_}
-use mathlib.Core.Bool.{Bool, true, false}
+use Prim.Native.Nat.{ℕ, suc}
+use mathlib.Core.Bool.{true}
 use mathlib.Core.List.{List, [], _∷_, _++_, reverseAux}
 use mathlib.Core.Path.{_≡_, refl, sym, ap, _∙_}
-use lib.Dec.{eqb}
 use lib.ListN.{length}
-use Rattle.rules.specs.Choice.{if_then_else_}
-use Rattle.rules.specs.Numbers.{in-range}
 use Rattle.rules.specs.Pairs.{lent-good}
 use Rattle.rules.specs.States.{fresh}
 use Rattle.rules.specs.OneEvent.{one-event}
-use Rattle.rules.specs.GivenBack.{acts-as, Answer, refusal, step}
+use Rattle.rules.specs.GivenBack.{acts-as, Answer, step}
 use Rattle.rules.specs.Sequences.{after, along, accepted-in, items-in, waiting}
 use Rattle.rules.specs.declared.Settings.{Settings}
 use Rattle.rules.specs.declared.Machine.{Machine}
 use Rattle.rules.specs.declared.Resting.{Resting}
-use Rattle.rules.specs.declared.Resting.the-variants.{S1}
 use Rattle.rules.specs.declared.Event.{Event}
-use Rattle.rules.specs.declared.Input.{Input}
-use Rattle.rules.proofs.Steps.{Accepted, taken, step-cases}
-use Rattle.opinions.specs.Earlier.{heard, heard-as, number-after, accepted}
-use Rattle.opinions.specs.Opinion.{free, Told, told, tell, from, opinion}
+use Rattle.rules.proofs.Steps.{taken, step-cases}
+use Rattle.opinions.specs.Earlier.{heard, number-after, accepted}
+use Rattle.opinions.specs.Opinion.{Told, told, tell, opinion}
 use Rattle.opinions.specs.SameAsRules.{Same-as-rules}
 use Rattle.opinions.proofs.Agree.{Stroke, stroke, events, g, run, agrees}
 use Rattle.opinions.proofs.Back.{Knows, knows-fresh, number-is, heard-of, knows-next}

@@ -10,7 +10,8 @@ use Rattle.rules.specs.Numbers.{settings-of}
 use Rattle.rules.specs.LayoutFacts.{key}
 use Rattle.rules.specs.States.{at}
 use Rattle.rules.specs.Sequences.{Press, press}
-use Rattle.rules.specs.Examples.{Line, event, text, rests, sent, answered, asked, an-event, Example, with-list, usual, with-solo, with-J-60, examples, slips, slow-hands, held-down, か, が, さ, ざ, right-mark}
+use Rattle.rules.specs.Examples.{Line, event, text, rests, sent, answered, asked, an-event, Example, with-list}
+use Rattle.rules.specs.Examples.{usual, with-solo, with-J-60, examples, slips, slow-hands, held-down, か, が, さ, ざ, right-mark}
 use Rattle.rules.specs.declared.Thumb.the-variants.{Left}
 use Rattle.rules.specs.declared.Settings.{Settings}
 use Rattle.rules.specs.declared.Item.{Item}
@@ -96,7 +97,8 @@ own-keystrokes =
     keystrokes "the second thumb further off" solo-L-60 (thumb-down 1 0 ∷ down 21 30 ∷ thumb-down 0 61 ∷ tick-at 128 ∷ [])
     (が ∷ Mark Left ∷ []) [] ∷
     -- no press, so that the first one is looked at further on
-    keystrokes "a repeat between letter and thumb" usual (down 21 0 ∷ down 21 20 ∷ thumb-down 1 30 ∷ down 21 59 ∷ up 21 60 ∷ []) (が ∷ []) [] ∷
+    keystrokes "a repeat between letter and thumb" usual (down 21 0 ∷ down 21 20 ∷ thumb-down 1 30 ∷ down 21 59 ∷ up 21 60 ∷ [])
+    (が ∷ []) [] ∷
     keystrokes "a stray up" usual (down 21 0 ∷ thumb-down 1 30 ∷ up 24 40 ∷ []) [] (press (key 21) (at 0) ∷ []) ∷
     keystrokes "a released thumb" with-solo (thumb-down 1 0 ∷ down 21 40 ∷ thumb-up 1 60 ∷ []) [] (press (key 21) (at 40) ∷ []) ∷
     keystrokes "a released thumb, a function key" with-solo (thumb-down 1 0 ∷ down 21 40 ∷ thumb-up 1 60 ∷ function-at 79 ∷ [])

@@ -1,5 +1,5 @@
--- Document 02, 11/12, for sequences of events: with held keys and with an empty pair list the second opinion says what the rules commit. The
--- proof is proofs/SameAsRules.antt.
+-- Document 02, 11/12, for sequences of events: with held keys and with an empty pair list the second opinion says what the rules commit.
+-- The proof is proofs/SameAsRules.antt.
 use Prim.Native.Nat.{ℕ}
 use mathlib.Core.Bool.{true}
 use mathlib.Core.List.{List, [], reverse}
