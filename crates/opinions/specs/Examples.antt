@@ -96,6 +96,9 @@ own-keystrokes =
     (press (key 21) (at 30) ∷ []) ∷
     keystrokes "the second thumb further off" solo-L-60 (thumb-down 1 0 ∷ down 21 30 ∷ thumb-down 0 61 ∷ tick-at 128 ∷ [])
     (が ∷ Mark Left ∷ []) [] ∷
+    -- two decisions for each of them
+    keystrokes "thumbs one after the other" with-solo (thumb-down 0 0 ∷ thumb-down 1 10 ∷ thumb-down 0 20 ∷ thumb-down 1 30 ∷ [])
+    (Mark Left ∷ right-mark ∷ Mark Left ∷ []) [] ∷
     -- no press, so that the first one is looked at further on
     keystrokes "a repeat between letter and thumb" usual (down 21 0 ∷ down 21 20 ∷ thumb-down 1 30 ∷ down 21 59 ∷ up 21 60 ∷ [])
     (が ∷ []) [] ∷
