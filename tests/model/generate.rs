@@ -15,7 +15,7 @@ use crate::notation;
 use crate::pairs::{pair, Lent, Pair, NO_PAIRS};
 use crate::random::Random;
 
-const EVENT_LENGTH: usize = 13;
+pub const EVENT_LENGTH: usize = 13;
 
 /// A log and the length of the byte run that it is read into.
 pub struct Case {

@@ -1,7 +1,9 @@
-//! An independent model of document 01 and of requests 1/12 to 5/12 and 7/12 to 9/12 of
+//! An independent model of document 01 and of requests 1/12 to 5/12 and 7/12 to 10/12 of
 //! document 02, and what the tests make with it.
 
 pub mod arguments;
+pub mod console;
+pub mod consoles;
 pub mod demand3;
 pub mod drill;
 pub mod generate;
@@ -20,5 +22,7 @@ pub mod pieces;
 pub mod program;
 pub mod random;
 pub mod readers;
+pub mod row;
+pub mod rows;
 pub mod states;
 pub mod tally;

@@ -36,7 +36,7 @@ fn right_pairs(random: &mut Random, count: usize) -> Vec<Pair> {
     all.into_iter().map(|(a, b)| pair(a, b, right_character(random))).collect()
 }
 
-fn shuffle<T>(random: &mut Random, things: &mut [T]) {
+pub(crate) fn shuffle<T>(random: &mut Random, things: &mut [T]) {
     for last in (1..things.len()).rev() {
         things.swap(last, random.place(last + 1));
     }

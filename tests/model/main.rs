@@ -1,8 +1,8 @@
 //! `model check` tries the model against every worked example of the papers, and
-//! demand 3, the moved clock, lists of pairs, the round trip of drills and the distance on
-//! random sequences, lines and states. `model play` and `model drill` print what the program
-//! of that name prints for its standard input, by the model. `model long` writes a
-//! typed log of so many MiB and keeps little of it in memory.
+//! demand 3, the moved clock, lists of pairs, rows of keyboards, the round trip of drills and
+//! the distance on random sequences, lines and states. `model play`, `model console` and
+//! `model drill` print what the program of that name prints for its standard input, by the
+//! model. `model long` writes a typed log of so many MiB and keeps little of it in memory.
 
 mod check_drill;
 mod check_held;
@@ -10,12 +10,14 @@ mod check_live;
 mod check_moved;
 mod check_pairs;
 mod check_pieces;
+mod check_row;
 mod worked;
 
 use std::collections::BTreeSet;
 use std::io::{BufWriter, Read, Write};
 use std::process::ExitCode;
 
+use trabeculon_model::console::console;
 use trabeculon_model::demand3;
 use trabeculon_model::drill::{drill, USUAL_SETTINGS};
 use trabeculon_model::generate;
@@ -38,6 +40,7 @@ fn main() -> ExitCode {
     let done = match arguments[..] {
         ["check"] => check_all(),
         ["play"] => play_input(),
+        ["console"] => console_input(),
         ["drill"] => drill_input(USUAL_SETTINGS),
         ["drill", t, j, l, solo] => {
             raw_settings([t, j, l, solo]).ok_or(usage()).and_then(drill_input)
@@ -55,7 +58,8 @@ fn main() -> ExitCode {
 }
 
 fn usage() -> String {
-    "usage: model check | model play < LOG | model drill [T J L SOLO] < LINE | model long MIB > LOG"
+    "usage: model check | model play < LOG | model drill [T J L SOLO] < LINE | model long MIB > LOG\n\
+     model console < LOG"
         .to_string()
 }
 
@@ -65,6 +69,10 @@ fn raw_settings([t, j, l, solo]: [&str; 4]) -> Option<RawSettings> {
 
 fn play_input() -> Result<(), String> {
     write_output(play(&read_input()?).as_bytes())
+}
+
+fn console_input() -> Result<(), String> {
+    write_output(console(&read_input()?).as_bytes())
 }
 
 fn drill_input(settings: RawSettings) -> Result<(), String> {
@@ -112,6 +120,7 @@ fn check_all() -> Result<(), String> {
     check_moved::check_all()?;
     check_pairs::check_all()?;
     check_pieces::check_all()?;
+    check_row::check_all()?;
     check_demand3()?;
     check_rules_reached()
 }
