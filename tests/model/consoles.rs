@@ -4,7 +4,7 @@
 
 use crate::console::{keyboard_record, CONSOLE_BUFFER};
 use crate::generate::{
-    odd_list, open, random_events, right_settings, typed_log, wrong_settings, EVENT_LENGTH,
+    odd_list, open, random_events, right_settings, starts, typed_log, wrong_settings, EVENT_LENGTH,
 };
 use crate::lists::{right_lent, wrong_lent};
 use crate::log::{event_record, list_record, log_of, settings_record, split, HEADER};
@@ -156,18 +156,6 @@ fn odd_records(board: u8) -> Vec<Vec<u8>> {
 
 fn insert(log: &mut Vec<u8>, place: usize, bytes: &[u8]) {
     log.splice(place..place, bytes.iter().copied());
-}
-
-/// Where the outer records start, as far as they are whole.
-fn starts(log: &[u8]) -> Vec<usize> {
-    let mut starts = vec![0];
-    while let Some((_, body)) = split(&log[starts[starts.len() - 1]..]) {
-        starts.push(starts[starts.len() - 1] + HEADER + body.len());
-    }
-    if starts.len() > 1 {
-        starts.pop();
-    }
-    starts
 }
 
 // ---- Damage at every place ----

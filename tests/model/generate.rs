@@ -481,8 +481,8 @@ pub fn odd_list(random: &mut Random, mut list: Vec<u8>) -> Vec<u8> {
     list
 }
 
-/// Where the records of an undamaged log start.
-fn starts(log: &[u8]) -> Vec<usize> {
+/// Where the records of a log start, as far as they are whole.
+pub(crate) fn starts(log: &[u8]) -> Vec<usize> {
     let mut starts = vec![0];
     while let Some((_, body)) = split(&log[starts[starts.len() - 1]..]) {
         starts.push(starts[starts.len() - 1] + HEADER + body.len());

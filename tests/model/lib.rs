@@ -1,9 +1,10 @@
-//! An independent model of document 01 and of requests 1/12 to 5/12 and 7/12 to 10/12 of
+//! An independent model of document 01 and of requests 1/12 to 5/12, 7/12 to 10/12 and 12/12 of
 //! document 02, and what the tests make with it.
 
 pub mod arguments;
 pub mod console;
 pub mod consoles;
+pub mod damage;
 pub mod demand3;
 pub mod drill;
 pub mod generate;
@@ -12,6 +13,7 @@ pub mod lines;
 pub mod lists;
 pub mod live;
 pub mod log;
+pub mod mend;
 pub mod model;
 pub mod moved;
 pub mod notation;

@@ -1,12 +1,13 @@
 //! `model check` tries the model against every worked example of the papers, and
-//! demand 3, the moved clock, lists of pairs, rows of keyboards, the round trip of drills and
-//! the distance on random sequences, lines and states. `model play`, `model console` and
+//! demand 3, the moved clock, lists of pairs, rows of keyboards, mended logs, the round trip
+//! of drills and the distance on random sequences, lines and states. `model play`, `model console` and
 //! `model drill` print what the program of that name prints for its standard input, by the
 //! model. `model long` writes a typed log of so many MiB and keeps little of it in memory.
 
 mod check_drill;
 mod check_held;
 mod check_live;
+mod check_mend;
 mod check_moved;
 mod check_pairs;
 mod check_pieces;
@@ -121,6 +122,7 @@ fn check_all() -> Result<(), String> {
     check_pairs::check_all()?;
     check_pieces::check_all()?;
     check_row::check_all()?;
+    check_mend::check_all()?;
     check_demand3()?;
     check_rules_reached()
 }
