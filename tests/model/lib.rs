@@ -1,4 +1,4 @@
-//! An independent model of document 01 and of requests 1/12 to 5/12, 7/12 to 10/12 and 12/12 of
+//! An independent model of document 01 and of requests 1/12 to 5/12 and 7/12 to 12/12 of
 //! document 02, and what the tests make with it.
 
 pub mod arguments;
@@ -17,6 +17,7 @@ pub mod mend;
 pub mod model;
 pub mod moved;
 pub mod notation;
+pub mod opinion;
 pub mod overlaps;
 pub mod pairings;
 pub mod pairs;
@@ -26,5 +27,6 @@ pub mod random;
 pub mod readers;
 pub mod row;
 pub mod rows;
+pub mod shifts;
 pub mod states;
 pub mod tally;

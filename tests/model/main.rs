@@ -9,6 +9,7 @@ mod check_held;
 mod check_live;
 mod check_mend;
 mod check_moved;
+mod check_opinion;
 mod check_pairs;
 mod check_pieces;
 mod check_row;
@@ -31,6 +32,7 @@ use trabeculon_model::model::{
     LARGEST_STAMP, LEAST_T, MOST_T,
 };
 use trabeculon_model::notation::{events, sendings_text, sign_text};
+use trabeculon_model::opinion::opined;
 use trabeculon_model::pairs::{Lent, NO_PAIRS};
 use trabeculon_model::random::Random;
 use worked::{Example, EXAMPLES};
@@ -42,6 +44,7 @@ fn main() -> ExitCode {
         ["check"] => check_all(),
         ["play"] => play_input(),
         ["console"] => console_input(),
+        ["opinion"] => opinion_input(),
         ["drill"] => drill_input(USUAL_SETTINGS),
         ["drill", t, j, l, solo] => {
             raw_settings([t, j, l, solo]).ok_or(usage()).and_then(drill_input)
@@ -60,7 +63,7 @@ fn main() -> ExitCode {
 
 fn usage() -> String {
     "usage: model check | model play < LOG | model drill [T J L SOLO] < LINE | model long MIB > LOG\n\
-     model console < LOG"
+     model console < LOG | model opinion < LOG"
         .to_string()
 }
 
@@ -70,6 +73,10 @@ fn raw_settings([t, j, l, solo]: [&str; 4]) -> Option<RawSettings> {
 
 fn play_input() -> Result<(), String> {
     write_output(play(&read_input()?).as_bytes())
+}
+
+fn opinion_input() -> Result<(), String> {
+    write_output(opined(&read_input()?).as_bytes())
 }
 
 fn console_input() -> Result<(), String> {
@@ -122,6 +129,7 @@ fn check_all() -> Result<(), String> {
     check_pairs::check_all()?;
     check_pieces::check_all()?;
     check_row::check_all()?;
+    check_opinion::check_all()?;
     check_mend::check_all()?;
     check_demand3()?;
     check_rules_reached()
