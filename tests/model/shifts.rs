@@ -7,7 +7,7 @@ use crate::generate::{
     next_event, open, random_case, right_settings, typed_log, typed_log_with, Hands,
 };
 use crate::lists::right_lent;
-use crate::log::{log_with, RawSettings};
+use crate::log::{list_record, log_with, split, RawSettings, HEADER, SETTINGS_LENGTH, TAG_LIST};
 use crate::model::{step_with, Event};
 use crate::pairs::{Lent, NO_PAIRS};
 use crate::random::Random;
@@ -60,12 +60,21 @@ fn drilled(random: &mut Random, raw: RawSettings, count: usize) -> Vec<u8> {
 }
 
 /// Any log for a second opinion: the reader's cases, most of them short, with lists and
-/// damaged; and typed ones with a list of pairs.
+/// damaged, where most lists are taken out again or have no pairs left; and typed ones with
+/// a list of pairs.
 pub fn random_opined(random: &mut Random) -> Vec<u8> {
     if random.once_in(40) {
         let raw = right_settings(random);
         let pairs = random.place(65);
         return typed_log_with(random, raw, pairs, 1_000);
     }
-    random_case(random).log
+    let mut log = random_case(random).log;
+    let second = log.get(SETTINGS_LENGTH..).and_then(split);
+    if let Some((TAG_LIST, body)) = second.filter(|_| !random.once_in(4)) {
+        let record = HEADER + body.len();
+        let none = list_record(&Lent { pairs: vec![], ..right_lent(random) });
+        let list = if random.once_in(2) { none } else { vec![] };
+        log.splice(SETTINGS_LENGTH..SETTINGS_LENGTH + record, list);
+    }
+    log
 }
