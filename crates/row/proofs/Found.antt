@@ -79,23 +79,23 @@ module _ (row : List Machine) (k : ℕ) where
       (λ _ h. inr (past-if-none row k h))
       (λ above _. inl (leb-false _ _ above))
 
-  -- an event at a keyboard that is found, and at one that is not
-  pub step-here : (g : Lent) (e : Event) (m : Machine) → Found row k m → step-at g row k e ≡ answered-at row k (step g m e)
-  unfolding step-at
-  step-here g e m f = rw (is-there m f)
-
+  -- an event where no keyboard is found, and at one that is
   pub step-nowhere : (g : Lent) (e : Event) → keyboard row k ≡ none → step-at g row k e ≡ refused-13 row
   unfolding step-at
   step-nowhere g e h = rw h
 
-  -- an asking
-  pub asking-here : (g : Lent) (now : Stamp) (m : Machine) → Found row k m → asking-at g row k now ≡ asking g m now
-  unfolding asking-at
-  asking-here g now m f = rw (is-there m f)
+  pub step-here : (g : Lent) (e : Event) (m : Machine) → Found row k m → step-at g row k e ≡ answered-at row k (step g m e)
+  unfolding step-at
+  step-here g e m f = rw (is-there m f)
 
+  -- an asking
   pub asking-nowhere : (g : Lent) (now : Stamp) → keyboard row k ≡ none → asking-at g row k now ≡ not-answered 13
   unfolding asking-at
   asking-nowhere g now h = rw h
+
+  pub asking-here : (g : Lent) (now : Stamp) (m : Machine) → Found row k m → asking-at g row k now ≡ asking g m now
+  unfolding asking-at
+  asking-here g now m f = rw (is-there m f)
 
   -- a keyboard's own state put in its place, and another's
   pub put-own : (m a : Machine) → Found row k m → Found (set row k a) k a
