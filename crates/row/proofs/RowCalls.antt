@@ -24,7 +24,7 @@ use Rattle.row.specs.Views.{Tells, TellsAt}
 use Rattle.row.specs.RowFacts.{Found}
 use Rattle.row.specs.RowRuns.{RowEvent, row-step, row-after, read-own, row-along}
 use Rattle.row.specs.RowCalls.{Called, RowCalls, no-more, call, last-row, told-to, row-answer, along-row-calls}
-use Rattle.row.specs.RowCalls.{Isolated-calls, Of-the-row}
+use Rattle.row.specs.RowCalls.{Isolated-calls, Of-the-row, RowOfTheCode}
 use Rattle.row.specs.declared.Told.{Told}
 use Rattle.row.proofs.RowRuns.{as-alone, isolated, demand-3-at, found-own, found-other}
 
@@ -94,7 +94,7 @@ module _ (g : Lent) where
         go true own now-on _ = rw (← told-here row x m (c .told) f own (h .0), ← h .1, now-on own)
         go false other _ as-before = rw (← h .1) (as-before other)
 
-pub isolated-calls : Isolated-calls
+isolated-calls : Isolated-calls
 isolated-calls g k j row other xs ys cs ds m c d f f′ same =
     let runs = isolated g k j row other xs ys m f f′ same in
     let left = calls-after g c in
@@ -107,7 +107,7 @@ isolated-calls g k j row other xs ys cs ds m c d f f′ same =
           ∙ sym (q ∙ ap (λ (l : List Machine). asking-at g l j now) right);
     }
 
-pub of-the-row : Of-the-row
+of-the-row : Of-the-row
 of-the-row g k row xs cs s m c is-opened f =
     let fresh-one = of-the-code g {s = s} {m = m} {es = []} {rs = []} (record { machine-opened = is-opened; calls = no-call }) in
     let begun : Found row k (fresh s) = subst (λ (z : Machine). Found row k z) (fresh-one .same-machine) f in
@@ -120,3 +120,6 @@ of-the-row g k row xs cs s m c is-opened f =
       same-asked = λ now r p. p ∙ ap (λ (l : List Machine). asking-at g l k now) left ∙ run .same-asking now;
       demand-3-holds = demand-3-at g k row xs s (fresh-one .settings-in-range) begun .demand-3-holds;
     }
+
+pub row-of-the-code : RowOfTheCode
+row-of-the-code = record { isolated-calls = isolated-calls; of-the-row = of-the-row }

@@ -26,8 +26,7 @@ use Rattle.rules.proofs.MovedClock.{clock-moved}
 use Rattle.row.specs.Row.{keyboard, step-found, step-at}
 use Rattle.row.specs.RowFacts.{Found}
 use Rattle.row.specs.RowRuns.{RowEvent, row-step, row-after, events-of, read-own, row-along, answer-in}
-use Rattle.row.specs.RowRuns.{As-alone, Isolated, Demand-3-at, Own-last-stamp}
-use Rattle.row.specs.RowRuns.{Clock-moved-at, Distance-at}
+use Rattle.row.specs.RowRuns.{As-alone, Isolated, Demand-3-at, Own-last-stamp, Clock-moved-at, Distance-at}
 use Rattle.row.proofs.Found.{step-here, asking-here, put-own, put-other}
 
 module _ (g : Lent) (k : ℕ) where
@@ -50,8 +49,8 @@ module _ (g : Lent) (k : ℕ) where
   -- what is read off its event
   read-here : {X : Type 0} (f : Machine → Event → Answer → List X) (row : List Machine) (x : RowEvent) (m : Machine) → Found row k m
       → eqb (x .board) k ≡ true
-      → read-own f (getElem? row k) (x .event) (row-step g row x) (getElem? (row-step g row x .row) k) ≡ f m (x .event)
-      (step g m (x .event))
+      → read-own f (getElem? row k) (x .event) (row-step g row x) (getElem? (row-step g row x .row) k)
+      ≡ f m (x .event) (step g m (x .event))
   read-here f row x m h own =
       rw (h .stands, found-own row x m h own .stands, eqb-true (x .board) k own, step-here row k g (x .event) m h)
 

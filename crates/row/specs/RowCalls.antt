@@ -1,7 +1,7 @@
 -- What a caller of `row::step_at` and `row::distance_at` sees who lends the same at every call and the row as the last call left it.
 -- Each clause below is the contract of one of the functions, in its own words, and both hold at every input, so a caller's own
--- sequence of calls is a `RowCalls`, whatever the row holds and the events are. The two records at the end are proved of every
--- `RowCalls`, in proofs/RowCalls.antt: isolation and demand 3 of what the functions answer and leave.
+-- sequence of calls is a `RowCalls`, whatever the row holds and the events are. The record at the end is proved in
+-- proofs/RowCalls.antt: isolation and demand 3 of what the functions answer and leave.
 use Prim.Native.Nat.{ℕ}
 use mathlib.Core.Bool.{true}
 use mathlib.Core.List.{List, [], _∷_, _++_}
@@ -111,3 +111,8 @@ Of-the-row =
     (g : Lent) (k : ℕ) (row : List Machine) (xs : List RowEvent) (cs : List Called) (s : Settings) (m : Machine)
     → RowCalls g row xs cs → opened (Ready m) ≡ opening s → Found row k m
     → OfTheRow g k row xs cs s
+
+-- what 10/12 promises a caller, of every row, every sequence of calls and every keyboard of it
+pub record RowOfTheCode : Type 1 where
+  pub isolated-calls : Isolated-calls
+  pub of-the-row : Of-the-row
