@@ -1,5 +1,5 @@
-// The whole face for a C host, as one library: libtrabeculon.a. Each function is that of `host` or `keyboard` under the same name,
-// with its contract.
+// The whole face for a C host, as one library: libtrabeculon.a. Each function is that of `host`, `keyboard` or `keyboards` under the
+// same name, with its contract.
 use flat::Flat;
 use host::Answer;
 use host::Drill;
@@ -8,6 +8,7 @@ use host::PieceRead;
 use keyboard::DistanceAnswer;
 use keyboard::OpenAnswer;
 use keyboard::StepAnswer;
+use keyboards::RowStepAnswer;
 use rules::Stamp;
 ghost use Prim.Native.Nat.{_/_};
 ghost use mathlib.Core.Path.{_≡_};
@@ -21,6 +22,7 @@ ghost use Rattle.host.specs.Drills.{drilled};
 ghost use Rattle.pieces.specs.Readers.{accepted};
 ghost use Rattle.host.specs.InPieces.{fresh-numbers, GivesPiece, GivesEnd};
 ghost use Rattle.keyboard.specs.Keyboard.{lent-of, event-of, open-numbers, step-numbers, distance-numbers};
+ghost use Rattle.keyboards.specs.Keyboards.{row-step-numbers, row-distance-numbers};
 
 #[no_mangle]
 pub extern "C" fn trabeculon_read_log(log: &[u8], out: &mut [u8]) -> Answer
@@ -102,4 +104,35 @@ pub extern "C" fn trabeculon_distance(
     ensures { λ r. ⌜ r ≡ distance-numbers (lent-of (now (pairs .entry)) ts n) machine stamp ⌝ }
 {
     keyboard::trabeculon_distance(machine, pairs, ts, n, stamp)
+}
+
+#[no_mangle]
+pub extern "C" fn trabeculon_row_step(
+    row: &mut [Flat],
+    pairs: &[u32],
+    ts: u16,
+    n: u8,
+    board: u32,
+    kind: u8,
+    key: u8,
+    stamp: Stamp,
+) -> RowStepAnswer
+    ensures { λ r. ⌜ (r ≡ row-step-numbers (lent-of (now (pairs .entry)) ts n) (now (row .entry)) board (event-of kind key stamp) .told)
+        × (now (row .exit) ≡ row-step-numbers (lent-of (now (pairs .entry)) ts n) (now (row .entry)) board (event-of kind key stamp) .row) ⌝ }
+{
+    keyboards::trabeculon_row_step(row, pairs, ts, n, board, kind, key, stamp)
+}
+
+#[no_mangle]
+pub extern "C" fn trabeculon_row_distance(
+    row: &[Flat],
+    pairs: &[u32],
+    ts: u16,
+    n: u8,
+    board: u32,
+    stamp: Stamp,
+) -> DistanceAnswer
+    ensures { λ r. ⌜ r ≡ row-distance-numbers (lent-of (now (pairs .entry)) ts n) (now (row .entry)) board stamp ⌝ }
+{
+    keyboards::trabeculon_row_distance(row, pairs, ts, n, board, stamp)
 }
