@@ -19,7 +19,8 @@ use Rattle.row.specs.Row.{most-keyboards}
 use Rattle.row.specs.Views.{is-keyboard}
 use Rattle.row.proofs.Found.{stands-at, none-past}
 use Rattle.row.proofs.Placed.{within, short}
-use Rattle.keyboards.specs.Keyboards.{keyboard-numbers, advanced-numbers, no-keyboard, not-asked, row-step-numbers, row-distance-numbers}
+use Rattle.keyboards.specs.Keyboards.{keyboard-numbers, advanced-numbers, row-numbers, no-keyboard, not-asked}
+use Rattle.keyboards.specs.Keyboards.{row-step-numbers, row-distance-numbers}
 use Rattle.keyboards.specs.declared.RowStepAnswer.{RowStepAnswer}
 use Rattle.keyboards.specs.declared.Advanced.{Advanced}
 
@@ -52,9 +53,9 @@ module _ (row : List Flat) (k : ℕ) where
   module _ (g : Lent) (t : T (is-keyboard (length row) k)) where
     -- the answer of the keyboard's own machine, with the machine in its place
     pub told-here : (e : Event) (d : Advanced) → d ≡ advanced-numbers (step-numbers g (getD row k any-machine) e)
-        → (d .told ≡ row-step-numbers g row k e .told) × (set row k (d .machine) ≡ row-step-numbers g row k e .row)
+        → row-numbers (d .told) (set row k (d .machine)) ≡ row-step-numbers g row k e
     unfolding row-step-numbers
-    told-here e d h = rw (h, is-found t) (refl, refl)
+    told-here e d h = rw (h, is-found t)
 
     pub asked-here : (now : Stamp) (r : DistanceAnswer) → r ≡ distance-numbers g (getD row k any-machine) now
         → r ≡ row-distance-numbers g row k now
@@ -63,9 +64,9 @@ module _ (row : List Flat) (k : ℕ) where
 
   module _ (g : Lent) (f : T (is-keyboard (length row) k) → ⊥) where
     pub told-nowhere : (e : Event) (r : RowStepAnswer) → r ≡ no-keyboard
-        → (r ≡ row-step-numbers g row k e .told) × (row ≡ row-step-numbers g row k e .row)
+        → row-numbers r row ≡ row-step-numbers g row k e
     unfolding row-step-numbers
-    told-nowhere e r h = rw (h, not-found f) (refl, refl)
+    told-nowhere e r h = rw (h, not-found f)
 
     pub asked-nowhere : (now : Stamp) (r : DistanceAnswer) → r ≡ not-asked → r ≡ row-distance-numbers g row k now
     unfolding row-distance-numbers

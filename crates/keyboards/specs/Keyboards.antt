@@ -29,6 +29,9 @@ pub record RowNumbers : Type 0 where
   pub told : RowStepAnswer
   pub row : List Flat
 
+abbrev pub row-numbers : RowStepAnswer → List Flat → RowNumbers
+row-numbers r row = record { told = r; row = row }
+
 -- what one keyboard answers, without its machine
 abbrev pub told-of : StepAnswer → RowStepAnswer
 told-of a =
@@ -62,11 +65,11 @@ no-keyboard =
 
 -- and the row as given
 abbrev pub refused-13 : List Flat → RowNumbers
-refused-13 row = record { told = no-keyboard; row = row }
+refused-13 row = row-numbers no-keyboard row
 
 -- the keyboard's own answer, and the row with its machine in its place
 abbrev pub answered-at : List Flat → ℕ → StepAnswer → RowNumbers
-answered-at row k a = record { told = told-of a; row = set row k (a .machine) }
+answered-at row k a = row-numbers (told-of a) (set row k (a .machine))
 
 abbrev pub row-step-found : Lent → List Flat → ℕ → Event → Option Flat → RowNumbers
 row-step-found g row k e none = refused-13 row

@@ -6,7 +6,8 @@ use row::is_keyboard;
 use rules::Stamp;
 ghost use mathlib.Core.Path.{_≡_};
 ghost use Rattle.keyboard.specs.Keyboard.{event-of, lent-of, step-numbers};
-ghost use Rattle.keyboards.specs.Keyboards.{advanced-numbers, no-keyboard, not-asked, row-step-numbers, row-distance-numbers};
+ghost use Rattle.keyboards.specs.Keyboards.{advanced-numbers, row-numbers, no-keyboard, row-step-numbers};
+ghost use Rattle.keyboards.specs.Keyboards.{not-asked, row-distance-numbers};
 
 // What an event at a row gives back beside the row: the number, how many items are committed, their words, and what is sent: so many
 // backspaces, 0 to 2, then signs, packed to the front, 0 behind the last.
@@ -96,8 +97,8 @@ pub extern "C" fn trabeculon_row_step(
     key: u8,
     stamp: Stamp,
 ) -> RowStepAnswer
-    ensures { λ r. ⌜ (r ≡ row-step-numbers (lent-of (now (pairs .entry)) ts n) (now (row .entry)) board (event-of kind key stamp) .told)
-        × (now (row .exit) ≡ row-step-numbers (lent-of (now (pairs .entry)) ts n) (now (row .entry)) board (event-of kind key stamp) .row) ⌝ }
+    ensures { λ r. ⌜ row-numbers r (now (row .exit))
+        ≡ row-step-numbers (lent-of (now (pairs .entry)) ts n) (now (row .entry)) board (event-of kind key stamp) ⌝ }
 {
     let place = board as usize;
     if is_keyboard(row.len(), place) {

@@ -22,7 +22,7 @@ ghost use Rattle.host.specs.Drills.{drilled};
 ghost use Rattle.pieces.specs.Readers.{accepted};
 ghost use Rattle.host.specs.InPieces.{fresh-numbers, GivesPiece, GivesEnd};
 ghost use Rattle.keyboard.specs.Keyboard.{lent-of, event-of, open-numbers, step-numbers, distance-numbers};
-ghost use Rattle.keyboards.specs.Keyboards.{row-step-numbers, row-distance-numbers};
+ghost use Rattle.keyboards.specs.Keyboards.{row-numbers, row-step-numbers, row-distance-numbers};
 
 #[no_mangle]
 pub extern "C" fn trabeculon_read_log(log: &[u8], out: &mut [u8]) -> Answer
@@ -117,8 +117,8 @@ pub extern "C" fn trabeculon_row_step(
     key: u8,
     stamp: Stamp,
 ) -> RowStepAnswer
-    ensures { λ r. ⌜ (r ≡ row-step-numbers (lent-of (now (pairs .entry)) ts n) (now (row .entry)) board (event-of kind key stamp) .told)
-        × (now (row .exit) ≡ row-step-numbers (lent-of (now (pairs .entry)) ts n) (now (row .entry)) board (event-of kind key stamp) .row) ⌝ }
+    ensures { λ r. ⌜ row-numbers r (now (row .exit))
+        ≡ row-step-numbers (lent-of (now (pairs .entry)) ts n) (now (row .entry)) board (event-of kind key stamp) ⌝ }
 {
     keyboards::trabeculon_row_step(row, pairs, ts, n, board, kind, key, stamp)
 }

@@ -1,7 +1,7 @@
--- `keyboards::trabeculon_row_distance` meets its contract: a walk of its MIR, by hand. `is_keyboard` decides. Where the place is in the row,
--- the row is looked into, the numbers there are copied out, the row is shut, and `keyboard::trabeculon_distance` is asked. Else `not_asked`
--- answers. Of the three the walk knows only the contracts.
-use mathlib.Core.Path.{_≡_, refl, sym, _∙_, ap, subst}
+-- `keyboards::trabeculon_row_distance` meets its contract: a walk of its MIR, by hand. `is_keyboard` decides. Where the place is in the
+-- row, the row is looked into, the numbers there are copied out, the row is shut, and `keyboard::trabeculon_distance` is asked. Else
+-- `not_asked` answers. Of the three the walk knows only the contracts.
+use mathlib.Core.Path.{_≡_, refl, sym}
 use mathlib.Core.Bool.{Bool, not}
 use mathlib.Core.List.{[], _∷_, List}
 use mathlib.Core.Option.{Option, none, some}
@@ -21,22 +21,22 @@ use ghost.Atoms.{Atoms, sem}
 use contract.Monad.{Fun, fact}
 use contract.Running.{givenOf, tables, tablesOf}
 use types.Kit as Kit
-use types.Kit.{Given, Item, Sq, runs, anyQ, ‵, raw, _⊛_, later, ⋆, atRet, _$_, _∵_, !, qed, by, move, drop, use1, use2, split, join, pick}
-use types.Kit.{rewrite, fsplit, fjoin, suffices, frame, await, done}
+use types.Kit.{Given, Item, Sq, runs, anyQ, ‵, raw, _⊛_, ⋆, atRet, _$_, _∵_, !, qed, by, move, drop, use1, use2, split, join, rewrite}
+use types.Kit.{fsplit, fjoin, suffices, frame, done}
 use types.Run.{look, look-raw, init, stop, hop, fld, from, load, lit, of-opd, un, bin, and-then, no-more, assigns, land, first, branches}
 use types.Run.{skips, exec, returns, returns-within, enter, alloc1, alloc0, params1, pass1, pass0}
 use types.Part.{whole, sub, look-in}
 use sound.WpLaws.{FmC, fmOf, WpFn-mono}
 use denote.RattleType.{owns}
 use denote.Laws.{Is, shows}
-use denote.Plain.{uint-makes, uint-vals, uint-tells, bool-lawful, bool-tells}
+use denote.Plain.{uint-makes, uint-vals, uint-tells, bool-vals, bool-lawful, bool-tells}
 use denote.Builtin.{u8, u16, u32, bool}
 use denote.Ref.{RefT}
 use denote.Memory.{pointee}
 use denote.Slice.{sliceTy, sliceVal, slice-vals, shr-slice-tells, ShrSlice, Room}
 use denote.Index.{place-is, elem-out, elem-back, looks-slice, shuts-slice}
 use denote.Signature.{plain, shrSliceOf}
-use denote.Steps.{only, owned, facts, heard, nothing}
+use denote.Steps.{owned, nothing}
 use denote.Struct.Laws as LL
 use denote.Triple.Entry.{Vals, onEntry}
 use denote.Triple.Spec.{Meets, tripleOf}
@@ -62,15 +62,15 @@ use Rattle.keyboard.proofs.trabeculon_distance.Symbol as ask-def
 use Rattle.keyboard.proofs.trabeculon_distance.Symbol.{name as #keyboard·trabeculon-distance}
 use Rattle.keyboard.proofs.trabeculon_distance.Met as ask-thm
 use Rattle.row.specs.Views.{is-keyboard}
+use Rattle.row.proofs.Calling.{answers, IsKeyboard, is-keyboard-says, to-is-keyboard, goes-is-keyboard}
 use Rattle.row.proofs.Leaving.{then-of, Local, local, stacked, env, leave}
 use Rattle.row.proofs.Placed.{within}
-use Rattle.row.proofs.is_keyboard as is-keyboard′
 use Rattle.row.proofs.is_keyboard.Symbol as is-keyboard-def
 use Rattle.row.proofs.is_keyboard.Symbol.{name as #row·is-keyboard}
 use Rattle.row.proofs.is_keyboard.Met as is-keyboard-thm
 use Rattle.keyboards.specs.Keyboards.{not-asked, row-distance-numbers}
 use Rattle.keyboards.proofs.Placed.{size, any-machine, offset-fits, asked-here, asked-nowhere}
-use Rattle.keyboards.proofs.Walking.{M′, vals-of, wide, let-go, IsKeyboard, is-keyboard-says, to-is-keyboard, goes-is-keyboard}
+use Rattle.keyboards.proofs.Walking.{M′, vals-of, wide, let-go}
 use Rattle.keyboards.proofs.not_asked as not-asked′
 use Rattle.keyboards.proofs.not_asked.Symbol as not-asked-def
 use Rattle.keyboards.proofs.not_asked.Symbol.{name as #keyboards·not-asked}
@@ -256,41 +256,34 @@ module _ {M : Type 1} (𝓤 : URA M) (H : Heap 𝓤) (A : Atoms 𝓤) (W : Given
           (and-then ! (load ! (from ! (stop !)) (look ! 22 refl)) (and-then ! (load ! (from ! (stop !)) (look ! 20 refl))
           (and-then ! (load ! (from ! (stop !)) (look ! 18 refl)) (and-then ! (load ! (from ! (stop !)) (look ! 14 refl)) (no-more !))))))
           (λ w₂.
-          use1 W (later (Kit.some (λ (d : DistanceAnswer). ((‵ (flft κ′ q′) ⊛ ‵ ftrue) ⊛ ‵ (R.the-row .own d (w₂ ∷ []))) ⊛ raw
-          (ensured 𝓤 H A ask.ended (ask.clauses 𝓤 H A mem run) (κ′, tt) (state, (p, (s, (pc, (t, tt))))) tt d)))) (id⊢ 𝓤 _) $
-          await ! tt $ pick ! (λ d. split ! $ move ! (1 ∷ []) $
-          use1 W (raw (fact 𝓤 (d ≡ distance-numbers g₀ state t))) (ask-says 𝓤 H A mem run κ′ state p s pc t d) $
-          heard ! (d ≡ distance-numbers g₀ state t) (λ e₂. split ! $ move ! (1 ∷ []) $
-          facts ! R.the-row (Is R.the-row) (shows 𝓤 H A R.the-row) d (w₂ ∷ []) (λ is₂. move ! (1 ∷ []) $
+          answers R.the-row (LL.vals R.the-type R′.the-laws) (LL.tells R.the-type R′.the-laws) (‵ (flft κ′ q′) ⊛ ‵ ftrue) w₂ (id⊢ 𝓤 _)
+          (ask-says 𝓤 H A mem run κ′ state p s pc t)
+          (λ d e₂ is₂. move ! (1 ∷ []) $
           land ! (from ! (stop !)) (init ! 26 refl (LL.lawful R.the-type R′.the-laws 𝓤 H A W .typed d _ is₂ .0)) $
-          rewrite ! 26 (λ (u : Val). ‵ (fat fullShare R′.mir l₀ 0 u)) (ap only (LL.tells R.the-type R′.the-laws d _ is₂)) refl $
           returns-within ! Post refl (look ! 26 refl) $
           move ! (26 ∷ 27 ∷ 24 ∷ 25 ∷ 22 ∷ 23 ∷ 20 ∷ 21 ∷ 18 ∷ 19 ∷ 16 ∷ 17 ∷ 14 ∷ 15 ∷ 12 ∷ 13 ∷ 10 ∷ 11 ∷ 8 ∷ 9 ∷ 6 ∷ 7 ∷ 4 ∷ 5 ∷ 2 ∷
           3 ∷ []) $
           leave 𝓤 H A W (locals (some _) (some _) (some _) (some _) (some _) (some _) (some _) (some _) (some _) (some _) (some _)
           (some _) (some _)) _ _
-          (by ! (exits d (subst (Is R.the-row d) (LL.tells R.the-type R′.the-laws d _ is₂) is₂) (asked-here ys i g₀ taken t d e₂)))))))))
+          (by ! (exits d is₂ (asked-here ys i g₀ taken t d e₂)))))))
 
       -- not in the row: `not_asked` answers
       refuses : T (not (is-keyboard n i)) → Sq W Tested (runs C Λ E₀ mir.t-5 (atRet E₀ Post))
       refuses left =
           nothing ! $ use1 W (raw (NotAsked 𝓤 H A mem run .pre to-not-asked)) goes-not-asked $
           calls-at ! fm (NotAsked 𝓤 H A mem run) known-not-asked to-not-asked (no-more !) (λ w₃.
-          use1 W (later (Kit.some (λ (d : DistanceAnswer). (‵ ftrue ⊛ ‵ (R.the-row .own d (w₃ ∷ []))) ⊛ raw
-          (ensured 𝓤 H A not-asked′.ended (not-asked′.clauses 𝓤 H A mem run) tt tt tt d)))) (id⊢ 𝓤 _) $
-          await ! tt $ pick ! (λ d. split ! $ move ! (1 ∷ []) $
-          use1 W (raw (fact 𝓤 (d ≡ not-asked))) (not-asked-says 𝓤 H A mem run d) $ heard ! (d ≡ not-asked) (λ e₃. split ! $ drop ! $
-          facts ! R.the-row (Is R.the-row) (shows 𝓤 H A R.the-row) d (w₃ ∷ []) (λ is₃.
+          answers R.the-row (LL.vals R.the-type R′.the-laws) (LL.tells R.the-type R′.the-laws) (‵ ftrue) w₃ (id⊢ 𝓤 _)
+          (not-asked-says 𝓤 H A mem run)
+          (λ d e₃ is₃. drop ! $
           land ! (from ! (stop !)) (init ! 24 refl (LL.lawful R.the-type R′.the-laws 𝓤 H A W .typed d _ is₃ .0)) $
-          rewrite ! 24 (λ (u : Val). ‵ (fat fullShare R′.mir l₀ 0 u)) (ap only (LL.tells R.the-type R′.the-laws d _ is₃)) refl $
           move ! (27 ∷ []) $ drop ! $ move ! (26 ∷ []) $ split ! $
           returns ! (look ! 26 refl) $
           move ! (26 ∷ 27 ∷ 24 ∷ 25 ∷ 22 ∷ 23 ∷ 20 ∷ 21 ∷ 18 ∷ 19 ∷ 16 ∷ 17 ∷ 14 ∷ 15 ∷ 12 ∷ 13 ∷ 10 ∷ 11 ∷ 8 ∷ 9 ∷ 6 ∷ 7 ∷ 4 ∷ 5 ∷ 2 ∷
           3 ∷ []) $
           leave 𝓤 H A W (locals (some _) (some _) (some _) (some _) (some _) (some _) (some _) (some _) (some _) (some _) none none none)
           _ _
-          (by ! (exits d (subst (Is R.the-row d) (LL.tells R.the-type R′.the-laws d _ is₃) is₃)
-          (asked-nowhere ys i g₀ (T-not (is-keyboard n i) left) t d e₃)))))))
+          (by ! (exits d is₃
+          (asked-nowhere ys i g₀ (T-not (is-keyboard n i) left) t d e₃)))))
 
       -- the test
       tests : Sq W (stacked 𝓤 H A (held none none none none none none none) Under) (runs C Λ E₀ mir.t-1 (atRet E₀ Post))
@@ -299,25 +292,17 @@ module _ {M : Type 1} (𝓤 : URA M) (H : Heap 𝓤) (A : Atoms 𝓤) (W : Given
           (init ! 10 refl (tt, record { fits = wide i i-fits })) $
           assigns ! (of-opd ! (load ! (from ! (fld ! refl (stop !))) (look-in ! 22 (sub ! 1 refl (whole !))))) (from ! (stop !))
           (init ! 6 refl (tt, record { fits = room .0 })) $
-          nothing ! $ use1 W (raw (IsKeyboard 𝓤 H A mem run .pre to-test))
-          (goes-is-keyboard 𝓤 H A mem run W n i (room .0) (wide i i-fits)) $
-          calls-at ! fm (IsKeyboard 𝓤 H A mem run) known-is-keyboard to-test
+          nothing ! $ use1 W (raw (IsKeyboard 𝓤 H A mem run .pre (to-is-keyboard 𝓤 H A mem run n i)))
+          (goes-is-keyboard 𝓤 H A mem run n i W (room .0) (wide i i-fits)) $
+          calls-at ! fm (IsKeyboard 𝓤 H A mem run) known-is-keyboard (to-is-keyboard 𝓤 H A mem run n i)
           (and-then ! (load ! (from ! (stop !)) (look ! 7 refl)) (and-then ! (load ! (from ! (stop !)) (look ! 11 refl)) (no-more !)))
           (λ w.
-          use1 W (later (Kit.some (λ (r : Bool). (‵ ftrue ⊛ ‵ (bool .own r (w ∷ []))) ⊛ raw
-          (ensured 𝓤 H A is-keyboard′.ended (is-keyboard′.clauses 𝓤 H A mem run) tt (n, (i, tt)) tt r)))) (id⊢ 𝓤 _) $
-          await ! tt $ pick ! (λ r. split ! $ move ! (1 ∷ []) $
-          use1 W (raw (fact 𝓤 (r ≡ is-keyboard n i))) (is-keyboard-says 𝓤 H A mem run n i r) $
-          heard ! (r ≡ is-keyboard n i) (λ e. split ! $ drop ! $
-          facts ! bool (Is bool) (shows 𝓤 H A bool) r (w ∷ []) (λ is.
+          answers bool bool-vals bool-tells (‵ ftrue) w (id⊢ 𝓤 _) (is-keyboard-says 𝓤 H A mem run n i) (λ r e is. drop ! $
           land ! (from ! (stop !)) (init ! 8 refl (bool-lawful 𝓤 H A W .typed r _ is .0)) $
-          rewrite ! 8 (λ (u : Val). ‵ (fat fullShare tyBool l₈ 0 u)) (ap only (bool-tells r _ is) ∙ ap vbool e) refl $
+          rewrite ! 8 (λ (z : Bool). ‵ (fat fullShare tyBool l₈ 0 (vbool z))) e refl $
           first ! $ branches ! (load ! (from ! (stop !)) (look ! 8 refl))
           (λ taken. asks taken)
-          (λ left. skips ! $ exec ! C Λ _ mir.t-5 (atRet _ Post) $ refuses left)))))
-        where
-          to-test : IsKeyboard 𝓤 H A mem run .Ghost
-          to-test = to-is-keyboard 𝓤 H A mem run W n i (room .0) (wide i i-fits)
+          (λ left. skips ! $ exec ! C Λ _ mir.t-5 (atRet _ Post) $ refuses left)))
 
     walk : ent 𝓤 (onEntry 𝓤 H A row-distance.signature (κ, (κ′, tt)) (q, (q′, tt)) a at)
         (WpFn 𝓤 H C Λ code.function (row-val ∷ p-val ∷ vint w16 s ∷ vint w8 pc ∷ vint w32 i ∷ t-val ∷ []) Post)

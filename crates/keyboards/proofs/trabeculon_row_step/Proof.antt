@@ -2,7 +2,7 @@
 -- the borrow is opened, the numbers there are copied out and passed to `advance`, those that come back are stored in their place, and
 -- the borrow is closed at the row with them. Else nothing is opened, and `no_keyboard` answers. Of the three the walk knows only the
 -- contracts.
-use mathlib.Core.Path.{_≡_, refl, sym, _∙_, ap, subst}
+use mathlib.Core.Path.{_≡_, refl, sym, ap, subst}
 use mathlib.Core.Bool.{Bool, not}
 use mathlib.Core.List.{[], _∷_, List}
 use mathlib.Core.Option.{Option, none, some}
@@ -24,8 +24,8 @@ use ghost.Atoms.{Atoms, sem}
 use contract.Monad.{Fun, fact}
 use contract.Running.{givenOf, tables, tablesOf}
 use types.Kit as Kit
-use types.Kit.{Given, Item, Sq, runs, anyQ, ‵, raw, _⊛_, later, ⋆, atRet, _$_, _∵_, !, qed, by, move, drop, use1, use2, split, join, pick}
-use types.Kit.{rewrite, fsplit, fjoin, suffices, frame, await, done}
+use types.Kit.{Given, Item, Sq, runs, anyQ, ‵, raw, _⊛_, ⋆, atRet, _$_, _∵_, !, qed, by, move, drop, use1, use2, split, join, rewrite}
+use types.Kit.{fsplit, fjoin, suffices, frame, done}
 use types.Run.{look, look-raw, init, store, store-raw, stop, hop, fld, from, load, lit, of-opd, un, bin, and-then, no-more, assigns, land}
 use types.Run.{first, branches, skips, exec, returns, returns-within, enter, alloc1, alloc0, params1, pass1, pass0}
 use types.Part.{whole, sub, look-in}
@@ -33,7 +33,7 @@ use sound.WpLaws.{FmC, fmOf, WpFn-mono}
 use denote.RattleType.{owns}
 use denote.Shadow.{pureI}
 use denote.Laws.{Is, shows}
-use denote.Plain.{uint-makes, uint-vals, uint-tells, bool-lawful, bool-tells}
+use denote.Plain.{uint-makes, uint-vals, uint-tells, bool-vals, bool-lawful, bool-tells}
 use denote.Builtin.{u8, u16, u32, bool}
 use denote.Ref.{RefT}
 use denote.Memory.{cellAt, mem as in-memory, shares, pointee}
@@ -41,7 +41,7 @@ use denote.Slice.{sliceTy, sliceVal, slice-vals, mut-slice-tells, shr-slice-tell
 use denote.Lend.{Held}
 use denote.Index.{place as lies-at, others, place-is, elem-out, elem-put, opens-slice, closes-slice}
 use denote.Signature.{plain, shrSliceOf}
-use denote.Steps.{only, owned, facts, heard, nothing}
+use denote.Steps.{only, owned, nothing}
 use denote.Struct.Laws as LL
 use denote.Triple.Entry.{Vals, onEntry}
 use denote.Triple.Spec.{Meets, tripleOf}
@@ -61,17 +61,17 @@ use Rattle.flat.proofs.Flat as T
 use Rattle.flat.proofs.Flat.Laws as T′
 use Rattle.keyboard.specs.Keyboard.{event-of, lent-of, step-numbers}
 use Rattle.row.specs.Views.{is-keyboard}
+use Rattle.row.proofs.Calling.{answers, IsKeyboard, is-keyboard-says, to-is-keyboard, goes-is-keyboard}
 use Rattle.row.proofs.Leaving.{then-of, rest-of, Local, local, stacked, env, leave}
 use Rattle.row.proofs.Placed.{within}
-use Rattle.row.proofs.is_keyboard as is-keyboard′
 use Rattle.row.proofs.is_keyboard.Symbol as is-keyboard-def
 use Rattle.row.proofs.is_keyboard.Symbol.{name as #row·is-keyboard}
 use Rattle.row.proofs.is_keyboard.Met as is-keyboard-thm
-use Rattle.keyboards.specs.Keyboards.{advanced-numbers, no-keyboard, row-step-numbers}
+use Rattle.keyboards.specs.Keyboards.{advanced-numbers, row-numbers, no-keyboard, row-step-numbers}
 use Rattle.keyboards.specs.declared.RowStepAnswer.{RowStepAnswer}
 use Rattle.keyboards.specs.declared.Advanced.{Advanced}
 use Rattle.keyboards.proofs.Placed.{size, any-machine, offset-fits, told-here, told-nowhere}
-use Rattle.keyboards.proofs.Walking.{M′, vals-of, wide, let-go, IsKeyboard, is-keyboard-says, to-is-keyboard, goes-is-keyboard}
+use Rattle.keyboards.proofs.Walking.{M′, vals-of, wide, let-go}
 use Rattle.keyboards.proofs.RowStepAnswer as R
 use Rattle.keyboards.proofs.RowStepAnswer.Laws as R′
 use Rattle.keyboards.proofs.Advanced as AD
@@ -309,7 +309,7 @@ module _ {M : Type 1} (𝓤 : URA M) (H : Heap 𝓤) (A : Atoms 𝓤) (W : Given
 
   -- at exit the borrow is owned at the list zs, and the answer is r
   exits : (zs : List Flat) (r : RowStepAnswer) → Is R.the-row r (LL.vals R.the-type R′.the-laws r) → length zs ≡ n
-      → (r ≡ row-step-numbers g₀ ys i ev .told) × (zs ≡ row-step-numbers g₀ ys i ev .row)
+      → row-numbers r zs ≡ row-step-numbers g₀ ys i ev
       → ent 𝓤 (⋆ 𝓤 H A (‵ (fobs γ (codedHoleys M′ .code (heres M′ zs))) ∷ ‵ (fbor κ (Held M′ (length zs) b o γ)) ∷ ‵ (flft κ q) ∷
       (‵ (flft κ′ q′) ⊛ ‵ ftrue) ∷ [])) (Post (LL.val R.the-type R′.the-laws r))
   exits zs r g l e =
@@ -439,30 +439,21 @@ module _ {M : Type 1} (𝓤 : URA M) (H : Heap 𝓤) (A : Atoms 𝓤) (W : Given
           (and-then ! (load ! (from ! (stop !)) (look ! 33 refl)) (and-then ! (load ! (from ! (stop !)) (look ! 31 refl))
           (and-then ! (load ! (from ! (stop !)) (look ! 27 refl)) (and-then ! (load ! (from ! (stop !)) (look ! 25 refl))
           (and-then ! (load ! (from ! (stop !)) (look ! 23 refl)) (no-more !)))))))) (λ w₂.
-          use1 W (later (Kit.some (λ (d : Advanced). ((‵ (flft κ′ q′) ⊛ ‵ ftrue) ⊛ ‵ (AD.the-row .own d (w₂ ∷ []))) ⊛ raw
-          (ensured 𝓤 H A advance.ended (advance.clauses 𝓤 H A mem run) (κ′, tt) (state, (p, (s, (pc, (c, (k, (t, tt))))))) tt d))))
-          (id⊢ 𝓤 _) $
-          await ! tt $ pick ! (λ d. split ! $ move ! (1 ∷ []) $
-          use1 W (raw (fact 𝓤 (d ≡ advanced-numbers (step-numbers g₀ state ev)))) (advance-says 𝓤 H A mem run κ′ state p s pc c k t d) $
-          heard ! (d ≡ advanced-numbers (step-numbers g₀ state ev)) (λ e₂. split ! $ move ! (1 ∷ []) $
-          facts ! AD.the-row (Is AD.the-row) (shows 𝓤 H A AD.the-row) d (w₂ ∷ []) (λ is₂. move ! (1 ∷ 2 ∷ 3 ∷ 4 ∷ 5 ∷ 6 ∷ []) $
+          answers AD.the-row (LL.vals AD.the-type AD′.the-laws) (LL.tells AD.the-type AD′.the-laws) (‵ (flft κ′ q′) ⊛ ‵ ftrue) w₂
+          (id⊢ 𝓤 _) (advance-says 𝓤 H A mem run κ′ state p s pc c k t)
+          (λ d e₂ is₂. move ! (1 ∷ 2 ∷ 3 ∷ 4 ∷ 5 ∷ 6 ∷ []) $
           land ! (from ! (stop !)) (init ! 19 refl (LL.lawful AD.the-type AD′.the-laws 𝓤 H A W .typed d _ is₂ .0)) $
-          rewrite ! 19 (λ (u : Val). ‵ (fat fullShare (both-ty R′.mir T′.mir) l₁₀ 0 u))
-          (ap only (LL.tells AD.the-type AD′.the-laws d _ is₂)) refl $
-          stores taken d (subst (Is AD.the-row d) (LL.tells AD.the-type AD′.the-laws d _ is₂) is₂) e₂))))))
+          stores taken d is₂ e₂))))
 
       -- not in the row: `no_keyboard` answers, and the row is as it was
       refuses : T (not (is-keyboard n i)) → Sq W Tested (runs C Λ E₀ mir.t-5 (atRet E₀ Post))
       refuses left =
           nothing ! $ use1 W (raw (NoKeyboard 𝓤 H A mem run .pre to-no-keyboard)) goes-no-keyboard $
           calls-at ! fm (NoKeyboard 𝓤 H A mem run) known-no-keyboard to-no-keyboard (no-more !) (λ w₃.
-          use1 W (later (Kit.some (λ (d : RowStepAnswer). (‵ ftrue ⊛ ‵ (R.the-row .own d (w₃ ∷ []))) ⊛ raw
-          (ensured 𝓤 H A no-keyboard′.ended (no-keyboard′.clauses 𝓤 H A mem run) tt tt tt d)))) (id⊢ 𝓤 _) $
-          await ! tt $ pick ! (λ d. split ! $ move ! (1 ∷ []) $
-          use1 W (raw (fact 𝓤 (d ≡ no-keyboard))) (no-keyboard-says 𝓤 H A mem run d) $ heard ! (d ≡ no-keyboard) (λ e₃. split ! $ drop ! $
-          facts ! R.the-row (Is R.the-row) (shows 𝓤 H A R.the-row) d (w₃ ∷ []) (λ is₃.
+          answers R.the-row (LL.vals R.the-type R′.the-laws) (LL.tells R.the-type R′.the-laws) (‵ ftrue) w₃ (id⊢ 𝓤 _)
+          (no-keyboard-says 𝓤 H A mem run)
+          (λ d e₃ is₃. drop ! $
           land ! (from ! (stop !)) (init ! 32 refl (LL.lawful R.the-type R′.the-laws 𝓤 H A W .typed d _ is₃ .0)) $
-          rewrite ! 32 (λ (u : Val). ‵ (fat fullShare R′.mir l₀ 0 u)) (ap only (LL.tells R.the-type R′.the-laws d _ is₃)) refl $
           -- of what the parameters own, the row
           move ! (35 ∷ []) $ fsplit ! $ fsplit ! $ drop ! $ fsplit ! $ move ! (2 ∷ []) $ drop ! $ move ! (36 ∷ []) $ split ! $
           move ! (2 ∷ 3 ∷ []) $
@@ -471,8 +462,8 @@ module _ {M : Type 1} (𝓤 : URA M) (H : Heap 𝓤) (A : Atoms 𝓤) (W : Given
           12 ∷ 13 ∷ 10 ∷ 11 ∷ 8 ∷ 9 ∷ 6 ∷ 7 ∷ 4 ∷ 5 ∷ []) $
           leave 𝓤 H A W (locals (some _) (some _) (some _) (some _) (some _) (some _) (some _) (some _) (some _) (some _) none (some _)
           (some _) none none none none) _ _
-          (by ! (exits ys d (subst (Is R.the-row d) (LL.tells R.the-type R′.the-laws d _ is₃) is₃) refl
-          (told-nowhere ys i g₀ (T-not (is-keyboard n i) left) ev d e₃)))))))
+          (by ! (exits ys d is₃ refl
+          (told-nowhere ys i g₀ (T-not (is-keyboard n i) left) ev d e₃)))))
 
       -- the test
       tests : Sq W (stacked 𝓤 H A (held none none none none none none none none none) Under) (runs C Λ E₀ mir.t-1 (atRet E₀ Post))
@@ -481,25 +472,17 @@ module _ {M : Type 1} (𝓤 : URA M) (H : Heap 𝓤) (A : Atoms 𝓤) (W : Given
           (init ! 14 refl (tt, record { fits = wide i i-fits })) $
           assigns ! (of-opd ! (load ! (from ! (fld ! refl (stop !))) (look-in ! 30 (sub ! 1 refl (whole !))))) (from ! (stop !))
           (init ! 8 refl (tt, record { fits = room .0 })) $
-          nothing ! $ use1 W (raw (IsKeyboard 𝓤 H A mem run .pre to-test))
-          (goes-is-keyboard 𝓤 H A mem run W n i (room .0) (wide i i-fits)) $
-          calls-at ! fm (IsKeyboard 𝓤 H A mem run) known-is-keyboard to-test
+          nothing ! $ use1 W (raw (IsKeyboard 𝓤 H A mem run .pre (to-is-keyboard 𝓤 H A mem run n i)))
+          (goes-is-keyboard 𝓤 H A mem run n i W (room .0) (wide i i-fits)) $
+          calls-at ! fm (IsKeyboard 𝓤 H A mem run) known-is-keyboard (to-is-keyboard 𝓤 H A mem run n i)
           (and-then ! (load ! (from ! (stop !)) (look ! 9 refl)) (and-then ! (load ! (from ! (stop !)) (look ! 15 refl)) (no-more !)))
           (λ w.
-          use1 W (later (Kit.some (λ (r : Bool). (‵ ftrue ⊛ ‵ (bool .own r (w ∷ []))) ⊛ raw
-          (ensured 𝓤 H A is-keyboard′.ended (is-keyboard′.clauses 𝓤 H A mem run) tt (n, (i, tt)) tt r)))) (id⊢ 𝓤 _) $
-          await ! tt $ pick ! (λ r. split ! $ move ! (1 ∷ []) $
-          use1 W (raw (fact 𝓤 (r ≡ is-keyboard n i))) (is-keyboard-says 𝓤 H A mem run n i r) $
-          heard ! (r ≡ is-keyboard n i) (λ e. split ! $ drop ! $
-          facts ! bool (Is bool) (shows 𝓤 H A bool) r (w ∷ []) (λ is.
+          answers bool bool-vals bool-tells (‵ ftrue) w (id⊢ 𝓤 _) (is-keyboard-says 𝓤 H A mem run n i) (λ r e is. drop ! $
           land ! (from ! (stop !)) (init ! 10 refl (bool-lawful 𝓤 H A W .typed r _ is .0)) $
-          rewrite ! 10 (λ (u : Val). ‵ (fat fullShare tyBool l₁₁ 0 u)) (ap only (bool-tells r _ is) ∙ ap vbool e) refl $
+          rewrite ! 10 (λ (z : Bool). ‵ (fat fullShare tyBool l₁₁ 0 (vbool z))) e refl $
           first ! $ branches ! (load ! (from ! (stop !)) (look ! 10 refl))
           (λ taken. steps taken)
-          (λ left. skips ! $ exec ! C Λ _ mir.t-5 (atRet _ Post) $ refuses left)))))
-        where
-          to-test : IsKeyboard 𝓤 H A mem run .Ghost
-          to-test = to-is-keyboard 𝓤 H A mem run W n i (room .0) (wide i i-fits)
+          (λ left. skips ! $ exec ! C Λ _ mir.t-5 (atRet _ Post) $ refuses left)))
 
     walk : ent 𝓤 (onEntry 𝓤 H A row-step.signature (κ, (κ′, tt)) (q, (q′, tt)) a at)
         (WpFn 𝓤 H C Λ code.function (row-val ∷ p-val ∷ vint w16 s ∷ vint w8 pc ∷ vint w32 i ∷ vint w8 c ∷ vint w8 k ∷ t-val ∷ []) Post)

@@ -1,5 +1,5 @@
--- `trabeculon::trabeculon_row_distance` meets its contract: a walk of its MIR, by hand. The parameters are passed on as they came to the function of
--- `keyboards`, whose contract is the same, and what that returns is returned.
+-- `trabeculon::trabeculon_row_distance` meets its contract: a walk of its MIR, by hand. The parameters are passed on as they came
+-- to the function of `keyboards`, whose contract is the same, and what that returns is returned.
 use mathlib.Core.Path.{refl}
 use mathlib.Core.List.{[], _∷_, List}
 use mathlib.Core.Option.{some}
