@@ -1,2 +1,4 @@
 pub mod Walking
+mod Finding
 mod Placed
+mod KeyboardsFacts

@@ -49,11 +49,11 @@ told-of a =
 abbrev pub advanced-numbers : StepAnswer → Advanced
 advanced-numbers a = record { told = told-of a; machine = a .machine }
 
--- 13: nothing committed, nothing sent
-abbrev pub no-keyboard : RowStepAnswer
-no-keyboard =
+-- refused: nothing committed, nothing sent
+abbrev pub refused-told : ℕ → RowStepAnswer
+refused-told n =
     record {
-      number = 13;
+      number = n;
       items = 0;
       first = 0;
       second = 0;
@@ -63,7 +63,10 @@ no-keyboard =
       «sent_third» = 0;
     }
 
--- and the row as given
+abbrev pub no-keyboard : RowStepAnswer
+no-keyboard = refused-told 13
+
+-- 13: the row as given
 abbrev pub refused-13 : List Flat → RowNumbers
 refused-13 row = row-numbers no-keyboard row
 

@@ -1,1 +1,3 @@
 pub mod Keyboards
+pub mod KeyboardsFacts
+pub mod KeyboardsRuns
