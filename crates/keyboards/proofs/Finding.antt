@@ -58,7 +58,8 @@ module _ (row : List Flat) (k : ℕ) where
       go (some f) h = at-some f (found-in f h)
 
   -- an event at a keyboard that is found, and at one that is not
-  pub step-here : (g : Lent) (e : Event) (f : Flat) → FoundNumbers row k f → row-step-numbers g row k e ≡ answered-at row k (step-numbers g f e)
+  pub step-here : (g : Lent) (e : Event) (f : Flat) → FoundNumbers row k f
+      → row-step-numbers g row k e ≡ answered-at row k (step-numbers g f e)
   unfolding row-step-numbers
   step-here g e f found = rw (is-there f found)
 
@@ -67,7 +68,8 @@ module _ (row : List Flat) (k : ℕ) where
   step-nowhere g e h = rw h
 
   -- an asking
-  pub distance-here : (g : Lent) (now : Stamp) (f : Flat) → FoundNumbers row k f → row-distance-numbers g row k now ≡ distance-numbers g f now
+  pub distance-here : (g : Lent) (now : Stamp) (f : Flat) → FoundNumbers row k f
+      → row-distance-numbers g row k now ≡ distance-numbers g f now
   unfolding row-distance-numbers
   distance-here g now f found = rw (is-there f found)
 

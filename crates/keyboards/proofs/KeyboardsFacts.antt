@@ -1,10 +1,10 @@
 -- One call at a row of numbers: exactly when it is refused 13, that it is else the keyboard's own, what it leaves as it was, and that it
 -- is the call at the row of machines that the numbers name.
-use Prim.Native.Nat.{ℕ, zero, suc, zero-le}
+use Prim.Native.Nat.{ℕ, zero, suc}
 use native.Mathlib.Omega.{arith}
 use mathlib.Core.Bool.{Bool, true, false}
-use mathlib.Core.List.{List, [], _∷_, map}
-use mathlib.Core.Logic.{_≢_, _⊎_, inl, inr}
+use mathlib.Core.List.{List, [], _∷_}
+use mathlib.Core.Logic.{_↔_, _≢_, inl, inr}
 use mathlib.Core.Option.{Option, none, some, Option·none-ne-some}
 use mathlib.Core.Path.{_≡_, refl, sym, ap, _∙_}
 use lib.Dec.{eqb}
@@ -13,7 +13,6 @@ use borrow.Author.Tests.{eqb-true, eqb-false}
 use Rattle.rules.specs.Pairs.{Lent, lent-good}
 use Rattle.rules.specs.Refusals.{NotGood}
 use Rattle.rules.specs.GivenBack.{step}
-use Rattle.rules.specs.Distance.{asking}
 use Rattle.rules.specs.declared.Stamp.{Stamp}
 use Rattle.rules.specs.declared.Machine.{Machine}
 use Rattle.rules.specs.declared.Event.{Event}
@@ -24,18 +23,17 @@ use Rattle.flat.specs.declared.Flat.{Flat}
 use Rattle.flat.proofs.Forms.{at-named}
 use Rattle.keyboard.specs.Keyboard.{no-machine-number, refused-numbers, step-named, step-numbers, asked-numbers, distance-numbers}
 use Rattle.keyboard.specs.DistanceNumbers.{tick-at}
-use Rattle.keyboard.specs.declared.StepAnswer.{StepAnswer}
 use Rattle.keyboard.proofs.HandedOn.{call-answers, keyboard-facts}
 use Rattle.keyboard.proofs.DistanceNumbers.{asks, same-refused-numbers}
-use Rattle.row.specs.Row.{keyboard, RowAnswer, step-at, asking-at}
+use Rattle.row.specs.Row.{keyboard, RowAnswer}
 use Rattle.row.specs.RowFacts.{NoKeyboard, Found}
-use Rattle.row.proofs.Found.{set-same, set-other, set-as-is, stands-at, none-past}
+use Rattle.row.proofs.Found.{set-same, set-other, set-as-is}
 use Rattle.row.proofs.Found as of-machines
 use Rattle.row.proofs.RowFacts.{row-facts}
 use Rattle.keyboards.specs.Keyboards.{keyboard-numbers, RowNumbers, told-of, row-numbers, refused-told, refused-13, answered-at}
 use Rattle.keyboards.specs.Keyboards.{row-step-numbers, not-asked, row-distance-numbers}
-use Rattle.keyboards.specs.KeyboardsFacts.{FoundNumbers, AsAlone, RowStepFacts, RowDistanceFacts, NamedAt, AsMachines, As-machines}
-use Rattle.keyboards.specs.KeyboardsFacts.{told-as-numbers, machines-of, Has-machines}
+use Rattle.keyboards.specs.KeyboardsFacts.{FoundNumbers, RowStepFacts, RowDistanceFacts, NamedAt, AsMachines, As-machines}
+use Rattle.keyboards.specs.KeyboardsFacts.{machines-of, Has-machines}
 use Rattle.keyboards.proofs.Finding.{none-why, not-13, by-found, step-here, step-nowhere, distance-here, distance-nowhere, put-own}
 
 -- No event at a keyboard alone is refused 13, nor 12 but where what is lent is not good.
@@ -64,7 +62,7 @@ number-not-13 g f e = go (named f)
     go none = by-good (lent-good g) refl
     go (some x) = machine-not-13 g x e
 
-number-12 : (g : Lent) (f : Flat) (e : Event) → (step-numbers g f e .number ≡ 12 → NotGood g) × (NotGood g → step-numbers g f e .number ≡ 12)
+number-12 : (g : Lent) (f : Flat) (e : Event) → step-numbers g f e .number ≡ 12 ↔ NotGood g
 unfolding step-numbers
 number-12 g f e = go (named f)
   where
@@ -72,7 +70,7 @@ number-12 g f e = go (named f)
     by-good true p h = absurd (let z : _≡_ {A = ℕ} 2 12 = rw p at h in omega arith)
     by-good false p h = p
 
-    go : (y : Option Machine) → (step-named g f e y .number ≡ 12 → NotGood g) × (NotGood g → step-named g f e y .number ≡ 12)
+    go : (y : Option Machine) → step-named g f e y .number ≡ 12 ↔ NotGood g
     go none = (by-good (lent-good g) refl, λ bad. rw bad)
     go (some x) = refusals g x e .gives-12
 
@@ -155,7 +153,8 @@ module _ (g : Lent) (row : List Flat) (k : ℕ) where
       })
       (λ f found.
       let at : row-distance-numbers g row k now ≡ distance-numbers g f now = distance-here row k g now f found in
-      let number-is : row-distance-numbers g row k now .number ≡ step-numbers g f (tick-at now) .number = rw at (same-refused-numbers g f now) in
+      let number-is : row-distance-numbers g row k now .number ≡ step-numbers g f (tick-at now) .number
+      = rw at (same-refused-numbers g f now) in
       record {
         gives-13 = (λ n. absurd (number-not-13 g f (tick-at now) (sym number-is ∙ n)), λ due. absurd (not-13 row k f found due));
         no-distance = λ due. absurd (not-13 row k f found due);

@@ -1,4 +1,5 @@
 pub mod Walking
 mod Finding
 mod Placed
-mod KeyboardsFacts
+pub mod KeyboardsFacts
+pub mod KeyboardsRuns

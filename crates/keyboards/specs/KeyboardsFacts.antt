@@ -98,4 +98,5 @@ abbrev pub machines-of : List Flat → List Machine
 machines-of row = map machine-at row
 
 abbrev pub Has-machines : Type 0
-Has-machines = (row : List Flat) (k : ℕ) (f : Flat) (x : Machine) → getElem? row k ≡ some f → named f ≡ some x → NamedAt k row (machines-of row)
+Has-machines =
+    (row : List Flat) (k : ℕ) (f : Flat) (x : Machine) → getElem? row k ≡ some f → named f ≡ some x → NamedAt k row (machines-of row)

@@ -15,7 +15,6 @@ use Rattle.rules.specs.Sequences.{state, line}
 use Rattle.rules.specs.Demand3.{Demand3}
 use Rattle.rules.specs.declared.Stamp.{Stamp}
 use Rattle.rules.specs.declared.Settings.{Settings}
-use Rattle.rules.specs.declared.Event.{Event}
 use Rattle.flat.specs.Fields.{named}
 use Rattle.flat.specs.declared.Flat.{Flat}
 use Rattle.keyboard.specs.Keyboard.{open-numbers, answered-numbers}
