@@ -1,10 +1,10 @@
 /*
  * Trabeculon: a proved key-timing engine for NICOLA thumb-shift keyboards. This
- * is its face for a C host: eight functions over runs and numbers. One reads a
+ * is its face for a C host: ten functions over runs and numbers. One reads a
  * log and one writes the log of a line; three drive a live keyboard: one opens
  * a machine, one takes an event, one says how far away the next deadline is;
- * and three read a log that arrives in pieces. All of them are in
- * libtrabeculon.a.
+ * two take an event and say the distance at a keyboard of a row; and three read
+ * a log that arrives in pieces. All of them are in libtrabeculon.a.
  *
  * Each function is proved equal to a definition, for every input, and to
  * return. Behind "Proved:" stand the definitions and statements that carry what
@@ -71,6 +71,9 @@ extern "C" {
  */
 #define TRABECULON_MOST_PAIRS 64
 
+/* So many keyboards a row may have. */
+#define TRABECULON_MOST_KEYBOARDS 16
+
 /* A pair as one number: two character keys, and their character. */
 #define TRABECULON_PAIR(a, b, c) \
     ((uint32_t)(a) << 24 | (uint32_t)(b) << 16 | (uint32_t)(c))
@@ -92,6 +95,7 @@ extern "C" {
 #define TRABECULON_ON_NO_FACE 10     /* a drill's character */
 #define TRABECULON_TOO_MANY_HELD 11  /* a new key while 6 are held */
 #define TRABECULON_PAIRS_REFUSED 12  /* the list of pairs, T_s or N */
+#define TRABECULON_NO_KEYBOARD 13    /* row above 16, or number past the row */
 
 /*
  * A moment of the keyboard's own clock, in milliseconds. It has a type of its
@@ -297,7 +301,7 @@ trabeculon_drill trabeculon_write_drill(uint16_t t, uint8_t j, uint8_t l,
  * All stamps are of the keyboard's own clock, never of the host's; a host's
  * time is no trabeculon_stamp. The host keeps the machine. Nothing is kept here
  * between two calls, so any number of keyboards can be driven side by side,
- * each with its own machine.
+ * each with its own machine; up to 16 of them in one row, see below.
  *
  * Where that clock begins does not matter. With one number added to every
  * stamp, all staying at most the largest, each call gives the same number,
@@ -536,6 +540,118 @@ trabeculon_asked trabeculon_distance(trabeculon_machine machine,
                                      trabeculon_stamp stamp);
 
 /*
+ * A row of live keyboards at one console (request 10/12): what its host does.
+ *
+ * Up to 16 machines lie side by side in an array of the host's, each opened by
+ * trabeculon_open with settings of its own. A keyboard's number is its place in
+ * that row, the first being 0. On an event of a keyboard the host calls
+ * trabeculon_row_step with the row and that number, and the machine is advanced
+ * where it lies; then trabeculon_row_distance, with the same row and number.
+ * For each keyboard it does what "A live keyboard" says: each has its own
+ * clock, and a screen and a committed line of its own. One list of pairs, ts
+ * and n serve the row.
+ *
+ * An event answers what trabeculon_step answers for that machine alone, does
+ * the same to the machine in the row, and leaves every other byte of the row as
+ * it was, also where other places hold numbers that name no machine. So what a
+ * keyboard gets depends neither on what the others hold or get nor on its place
+ * in the row, and no stamp is ever compared with one of another keyboard. The
+ * host may put other numbers in a place of the row between any two calls, say
+ * those of a keyboard that it opens now, or lend a longer row.
+ *
+ * Proved: calls at rows are, for each keyboard, calls of trabeculon_step with
+ * its own events (Own-calls); two hosts whose keyboards get the same events
+ * from the same numbers see the same there, whatever else their rows hold
+ * (Isolated-numbers); a keyboard that was opened and then got calls at the row
+ * alone is answered as document 01 answers its own events, its screen and line
+ * are its own, and demand 3 holds of them (Opened-in-row, all three in
+ * keyboards/specs/KeyboardsRuns.antt); and a row of numbers is stepped and
+ * asked as the row of machines that they name (As-machines,
+ * keyboards/specs/KeyboardsFacts.antt, over step-at, row/specs/Row.antt).
+ */
+
+/*
+ * What an event at a row answers: what trabeculon_step does, but for the
+ * machine, which is in the row.
+ *
+ * number       13 row_len is above 16, or board is not below row_len: tried
+ *                 first, before 12 too, whatever the row holds, whatever is
+ *                 lent and whatever the event is
+ *              Else the number of trabeculon_step for that machine: 0, 12, 2,
+ *              3, 4, 5 or 11, in the order that is said there.
+ * items,       as in trabeculon_stepped
+ * first,
+ * second,
+ * backspaces,
+ * sent_first,
+ * sent_second,
+ * sent_third
+ *
+ * Beside any number but 0, all that stands behind number is 0. It is 20 bytes
+ * with no padding.
+ */
+typedef struct {
+    uint32_t number;
+    uint32_t items;
+    uint16_t first;
+    uint16_t second;
+    uint16_t backspaces;
+    uint16_t sent_first;
+    uint16_t sent_second;
+    uint16_t sent_third;
+} trabeculon_row_stepped;
+
+/*
+ * Takes one event at a keyboard of a row. Kind, key and stamp are those of
+ * trabeculon_step.
+ *
+ * Afterwards:
+ *   - beside number 0, the machine at place board of the row is the one after
+ *     the event;
+ *   - beside any other number it is as it was, byte for byte, even if it is
+ *     none;
+ *   - every other byte of the row holds what it held before, whatever the
+ *     number;
+ *   - the list is unchanged.
+ *
+ * The caller lends row_len writable machines at row, aligned as a
+ * trabeculon_machine is, and pairs_len readable numbers at pairs as
+ * trabeculon_step takes them, which don't overlap. Either length may be 0; the
+ * pointer is not null even then. In a row of none every number is refused 13.
+ *
+ * Proved: row-step-numbers (keyboards/specs/Keyboards.antt), over step-numbers
+ * (keyboard/specs/Keyboard.antt); exactly when 13 is given and then 12, that
+ * all else is the machine's own, what a refused event leaves, and that the
+ * other machines and the row's length stay (RowStepFacts,
+ * keyboards/specs/KeyboardsFacts.antt).
+ */
+trabeculon_row_stepped trabeculon_row_step(trabeculon_machine *row,
+                                           size_t row_len,
+                                           const uint32_t *pairs,
+                                           size_t pairs_len, uint16_t ts,
+                                           uint8_t n, uint32_t board,
+                                           uint8_t kind, uint8_t key,
+                                           trabeculon_stamp stamp);
+
+/*
+ * Says how far the next deadline of a keyboard of a row is from a stamp of that
+ * keyboard's clock. It answers what trabeculon_distance answers for the machine
+ * at place board; but 13, deadline 0 and milliseconds 0 if row_len is above 16
+ * or board is not below row_len, which is tried first, before 12 too. The row
+ * is read and not written. What the caller lends is as for trabeculon_row_step.
+ *
+ * Proved: row-distance-numbers (keyboards/specs/Keyboards.antt), over
+ * distance-numbers (keyboard/specs/Keyboard.antt); exactly when 13 is given,
+ * and that it is refused as a tick at that keyboard is (RowDistanceFacts,
+ * keyboards/specs/KeyboardsFacts.antt).
+ */
+trabeculon_asked trabeculon_row_distance(const trabeculon_machine *row,
+                                         size_t row_len, const uint32_t *pairs,
+                                         size_t pairs_len, uint16_t ts,
+                                         uint8_t n, uint32_t board,
+                                         trabeculon_stamp stamp);
+
+/*
  * A log that arrives in pieces, of any size, even of no bytes: what its host
  * does.
  *
@@ -751,6 +867,7 @@ TRABECULON_SIZE(trabeculon_machine, 56);
 TRABECULON_SIZE(trabeculon_opened, 64);
 TRABECULON_SIZE(trabeculon_stepped, 80);
 TRABECULON_SIZE(trabeculon_asked, 16);
+TRABECULON_SIZE(trabeculon_row_stepped, 20);
 TRABECULON_SIZE(trabeculon_reader, 120);
 TRABECULON_SIZE(trabeculon_piece_read, 144);
 #undef TRABECULON_SIZE

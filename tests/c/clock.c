@@ -5,9 +5,9 @@
  *
  *   GIVEN   what the host has: STAMP, a trabeculon_stamp; NUMBER, a plain number of
  *           milliseconds; OTHER, a struct of the host's own that looks the same
- *   WANTED  where it goes: STEP, DISTANCE, or LAST, a machine's last stamp; or
- *           BRACES, a list that makes a whole machine, and in C++ an argument in
- *           braces, where a number is taken too
+ *   WANTED  where it goes: STEP or DISTANCE, ROW_STEP or ROW_DISTANCE, or LAST, a
+ *           machine's last stamp; or BRACES, a list that makes a whole machine, and
+ *           in C++ an argument in braces, where a number is taken too
  *
  * It is C and C++.
  */
@@ -21,6 +21,8 @@
 #define DISTANCE 2
 #define LAST 3
 #define BRACES 4
+#define ROW_STEP 5
+#define ROW_DISTANCE 6
 
 typedef struct {
     uint64_t ms;
@@ -36,7 +38,7 @@ typedef host_time given;
 #error "GIVEN is STAMP, NUMBER or OTHER"
 #endif
 
-#if WANTED == STEP || WANTED == DISTANCE || (WANTED == BRACES && defined(__cplusplus))
+#if WANTED != LAST && (WANTED != BRACES || defined(__cplusplus))
 /* A list of no pairs, lent with every call. */
 static const uint32_t list[1] = {0};
 #endif
@@ -52,6 +54,18 @@ trabeculon_asked ask(trabeculon_machine machine, given now);
 
 trabeculon_asked ask(trabeculon_machine machine, given now) {
     return trabeculon_distance(machine, list, 0, 50, 1, now);
+}
+#elif WANTED == ROW_STEP
+trabeculon_row_stepped tick(trabeculon_machine *row, given now);
+
+trabeculon_row_stepped tick(trabeculon_machine *row, given now) {
+    return trabeculon_row_step(row, 1, list, 0, 50, 1, 0, TRABECULON_TICK, 0, now);
+}
+#elif WANTED == ROW_DISTANCE
+trabeculon_asked ask(const trabeculon_machine *row, given now);
+
+trabeculon_asked ask(const trabeculon_machine *row, given now) {
+    return trabeculon_row_distance(row, 1, list, 0, 50, 1, 0, now);
 }
 #elif WANTED == LAST
 trabeculon_machine moved(trabeculon_machine machine, given now);
@@ -71,5 +85,5 @@ trabeculon_machine made(given now) {
     return machine;
 }
 #else
-#error "WANTED is STEP, DISTANCE, LAST or BRACES"
+#error "WANTED is STEP, DISTANCE, ROW_STEP, ROW_DISTANCE, LAST or BRACES"
 #endif

@@ -1,5 +1,5 @@
 /*
- * How much stack the eight functions of include/trabeculon.h use. Each is called on
+ * How much stack the ten functions of include/trabeculon.h use. Each is called on
  * a stack of its own that was filled with a pattern: the deepest byte that changed
  * says how far it went. The inputs are random ones, right and damaged, so what is
  * printed is the most that was seen: bytes, with the call itself and what it hands
@@ -57,6 +57,9 @@ static trabeculon_drill drill;
 static trabeculon_opened opened;
 static trabeculon_stepped stepped;
 static trabeculon_asked asked;
+static trabeculon_machine keyboards[TRABECULON_MOST_KEYBOARDS];
+static uint32_t board;
+static trabeculon_row_stepped row_stepped;
 static trabeculon_reader reader;
 static uint32_t row[TRABECULON_MOST_PAIRS];
 static trabeculon_piece_read piece_read;
@@ -163,6 +166,14 @@ static void call_step(void) {
 static void call_distance(void) {
     asked = trabeculon_distance(machine, pairs, pairs_len, ts, n, stamp);
 }
+static void call_row_step(void) {
+    row_stepped = trabeculon_row_step(keyboards, TRABECULON_MOST_KEYBOARDS, pairs, pairs_len, ts, n,
+                                      board, kind, key, stamp);
+}
+static void call_row_distance(void) {
+    asked = trabeculon_row_distance(keyboards, TRABECULON_MOST_KEYBOARDS, pairs, pairs_len, ts, n,
+                                    board, stamp);
+}
 static void call_reader_fresh(void) { reader = trabeculon_reader_fresh(); }
 static void call_reader_piece(void) {
     piece_read = trabeculon_reader_piece(reader, row, TRABECULON_MOST_PAIRS, piece, piece_len, out,
@@ -197,6 +208,7 @@ static void deepest(size_t *most, void (*call)(void)) {
 int main(void) {
     size_t fresh = 0, piece_of_log = 0, end = 0;
     size_t read_log = 0, write_drill = 0, open = 0, step = 0, distance = 0;
+    size_t row_step = 0, row_distance = 0;
     size_t refused = 0, commits = 0;
     for (int round = 0; round < ROUNDS; round++) {
         random_settings();
@@ -208,6 +220,12 @@ int main(void) {
             random_event();
             deepest(&step, call_step);
             deepest(&distance, call_distance);
+            board = below(TRABECULON_MOST_KEYBOARDS + 1);
+            if (board < TRABECULON_MOST_KEYBOARDS) {
+                keyboards[board] = machine;
+            }
+            deepest(&row_step, call_row_step);
+            deepest(&row_distance, call_row_distance);
             machine = stepped.machine;
             refused += stepped.number != 0;
             commits += stepped.items;
@@ -233,5 +251,7 @@ int main(void) {
     printf("trabeculon_open          %6zu\n", open - none);
     printf("trabeculon_step          %6zu\n", step - none);
     printf("trabeculon_distance      %6zu\n", distance - none);
+    printf("trabeculon_row_step      %6zu\n", row_step - none);
+    printf("trabeculon_row_distance  %6zu\n", row_distance - none);
     return refused == 0 || commits == 0;
 }
