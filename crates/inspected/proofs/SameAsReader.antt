@@ -4,7 +4,8 @@ use native.Mathlib.Omega.{arith}
 use borrow.Author.Tests.{le-leb, lt-leb, leb-true, leb-false, eqb-true, eqb-false}
 use mathlib.Core.Bool.{true, false, not, true≢false, and-eq-true-iff}
 use mathlib.Core.List.{List, [], _∷_, _++_, append-assoc, append-nil, foldl, cons-ne-nil}
-use mathlib.Core.Logic.{_≢_}
+use mathlib.Core.Logic.{_↔_, _≢_}
+use mathlib.Core.Option.{Option, none, some}
 use mathlib.Core.Path.{_≡_, refl, sym, ap, _∙_, subst}
 use lib.Dec.{eqb, leb, ltb}
 use lib.ListN.{length, length-append}
@@ -12,7 +13,7 @@ use Rattle.rules.specs.Numbers.{largest-stamp, in-range}
 use Rattle.rules.specs.Pairs.{Pair, Lent, lent-good, no-pairs}
 use Rattle.rules.specs.States.{fresh as fresh-machine, opening}
 use Rattle.rules.specs.ZeroDelay.{signs}
-use Rattle.rules.specs.GivenBack.{step}
+use Rattle.rules.specs.GivenBack.{step, step-with}
 use Rattle.rules.specs.Sequences.{items-in, waiting, after, along, state, items}
 use Rattle.rules.specs.declared.Settings.{Settings}
 use Rattle.rules.specs.declared.Machine.{Machine}
@@ -20,8 +21,9 @@ use Rattle.rules.specs.declared.Event.{Event}
 use Rattle.rules.proofs.Choices.{both-ways, by-test, either}
 use Rattle.rules.proofs.Screen.{signs-append}
 use Rattle.keylog.specs.Records.{tag, is-settings, settings, is-event, event, is-list, list}
-use Rattle.keylog.specs.Reader.{Desk, opened, running, by-event, effect, Reading, fresh, refuse, read-record, cut-behind, is-cut, at-end}
-use Rattle.keylog.specs.Reader.{read, number-of, waiting-of}
+use Rattle.keylog.specs.Reader.{Desk, closed, opened, running, Effect, by-event, effect, Reading, fresh, refuse, judge, unless-refused}
+use Rattle.keylog.specs.Reader.{read-record, cut-behind, is-cut, at-end, read, number-of, waiting-of}
+use Rattle.keylog.specs.Reader as reader
 use Rattle.keylog.specs.LogRecords.{records-of, tail-of}
 use Rattle.keylog.proofs.Lent.{no-pairs-good, step-is}
 use Rattle.keylog.proofs.Reading.{at-desk, read-records}
@@ -33,7 +35,7 @@ use Rattle.opinions.proofs.Back.{Knows, knows-fresh, number-is, knows-step}
 use Rattle.opinions.proofs.SameAsRules.{same-as-rules}
 use Rattle.inspected.specs.OfLog.{Found, ends, and-event, found-at-end, find, Opined, refused, on-told, on-found}
 use Rattle.inspected.specs.OfLog.{unless-pairs, behind, on-records, on-log, opined, answer-of}
-use Rattle.inspected.specs.SameAsReader.{as-read, BeginWithPairs, WithPairs, Same-as-reader}
+use Rattle.inspected.specs.SameAsReader.{as-read, BeginWithPairs, WithPairs, LendsPairs, Same-as-reader}
 
 -- what reading leaves behind the words ws, at a machine m, beside what is found
 record Ends (g : Lent) (m : Machine) (ws : List ℕ) (f : Found) (y : Reading) : Type 0 where
@@ -316,6 +318,170 @@ compared (r ∷ rs) cut =
     (λ f. refused-first r rs cut 1 (ordinary 1 refl refl) (not-in-range r rs f) (first-out-of-range r e f)))
     (λ e. refused-first r rs cut 7 (ordinary 7 refl refl) (not-settings r rs e) (first-not-settings r e))
 
+-- What the reader lends: the pairs of its desk.
+abbrev pairs-of : Desk → List Pair
+pairs-of closed = []
+pairs-of (opened m) = []
+pairs-of (running g m) = g .pairs
+
+lends-some : (d : Desk) → pairs-of d ≢ [] → LendsPairs d
+lends-some closed h = absurd (h refl)
+lends-some (opened m) h = absurd (h refl)
+lends-some (running g m) h = h
+
+lends-none : (d : Desk) → pairs-of d ≡ [] → ¬ LendsPairs d
+lends-none closed e h = h
+lends-none (opened m) e h = h
+lends-none (running g m) e h = h e
+
+-- a desk that lends these pairs, to whatever machine, and goes on doing so
+abbrev Lending : List Pair → Desk → Type 0
+Lending ps closed = ⊥
+Lending ps (opened m) = ⊥
+Lending ps (running g m) = g .pairs ≡ ps
+
+lending-pairs : (ps : List Pair) (d : Desk) → Lending ps d → pairs-of d ≡ ps
+lending-pairs ps (running g m) h = h
+
+abbrev Leads-to : List Pair → Effect → Type 0
+Leads-to ps (reader.refused n) = Unit {0}
+Leads-to ps (reader.accepted d ws) = Lending ps d
+
+event-lends : (g : Lent) (m : Machine) (r : List ℕ) → Leads-to (g .pairs) (by-event g m r)
+event-lends g m r =
+    both-ways (Leads-to (g .pairs)) (is-event r)
+    (both-ways (Leads-to (g .pairs)) (eqb (step-with g m (event r) .number) 0) refl tt) tt
+
+module _ (room : ℕ) (cut : List ℕ) (ps : List Pair) where
+  abbrev Lends : Reading → Type 0
+  Lends x = Lending ps (x .desk)
+
+  judge-lends : (x : Reading) (r : List ℕ) (f : Effect) → Lends x → Leads-to ps f → Lends (judge room x r f)
+  judge-lends x r (reader.refused n) h k = h
+  judge-lends x r (reader.accepted d ws) h k = both-ways Lends (leb (length (x .words) + length ws) room) k h
+
+  unless-lends : (x next : Reading) (o : Option ℕ) → Lends x → Lends next → Lends (unless-refused x o next)
+  unless-lends x next none h k = k
+  unless-lends x next (some n) h k = h
+
+  effect-lends : (d : Desk) (r : List ℕ) → Lending ps d → Leads-to ps (effect d r)
+  unfolding effect
+  effect-lends (running g m) r h = subst (λ (qs : List Pair). Leads-to qs (by-event g m r)) h (event-lends g m r)
+
+  record-lends : (x : Reading) (r : List ℕ) → Lends x → Lends (read-record room x r)
+  unfolding read-record
+  record-lends x r h =
+      unless-lends x _ (x .refusal) h (judge-lends x r (effect (x .desk) r) h (effect-lends (x .desk) r h))
+
+  fold-lends : (x : Reading) (rs : List (List ℕ)) → Lends x → Lends (foldl (read-record room) x rs)
+  fold-lends x [] h = h
+  fold-lends x (r ∷ rs) h = fold-lends (read-record room x r) rs (record-lends x r h)
+
+  end-lends : (x : Reading) → Lends x → Lends (at-end (record { state = x; pending = cut }))
+  end-lends x h = unless-lends x _ (x .refusal) h (both-ways Lends (is-cut (x .desk) cut) h h)
+
+  reads-lends : (x : Reading) (rs : List (List ℕ)) → Lends x → pairs-of (reads room cut x rs .desk) ≡ ps
+  reads-lends x rs h =
+      let y = foldl (read-record room) x rs in
+      lending-pairs ps (reads room cut x rs .desk) (end-lends y (fold-lends x rs h))
+
+abbrev lent-in : Reading → List Pair
+lent-in y = pairs-of (y .desk)
+
+-- An event straight behind the settings: no pairs are lent from there on.
+module _ (room : ℕ) (cut : List ℕ) (m : Machine) (at : ℕ) (q : List ℕ) (rs : List (List ℕ)) where
+  abbrev at-opened : Reading
+  at-opened = at-desk (opened m) [] at
+
+  none-by : (f : Effect) → Leads-to [] f → lent-in (reads room cut (judge room at-opened q f) rs) ≡ []
+  none-by (reader.refused n) h = ap lent-in (stopped room cut at-opened n rs)
+  none-by (reader.accepted d ws) h =
+      both-ways (λ (y : Reading). lent-in (reads room cut y rs) ≡ []) (leb (0 + length ws) room)
+      (reads-lends room cut [] (at-desk d ws (at + length q)) rs h)
+      (ap lent-in (stopped room cut at-opened 8 rs))
+
+  as-event : is-list q ≡ false → read-record room at-opened q ≡ judge room at-opened q (by-event no-pairs m q)
+  unfolding read-record effect
+  as-event e = rw e
+
+  none-lent : is-list q ≡ false → lent-in (reads room cut at-opened (q ∷ rs)) ≡ []
+  none-lent e =
+      ap (λ (y : Reading). lent-in (reads room cut y rs)) (as-event e) ∙ none-by (by-event no-pairs m q) (event-lends no-pairs m q)
+
+-- what is lent beside how the records begin
+module _ (room : ℕ) (cut : List ℕ) where
+  abbrev last : List (List ℕ) → Reading
+  last rs = reads room cut fresh rs
+
+  abbrev Agree : List (List ℕ) → Type 0
+  Agree rs = BeginWithPairs rs ↔ LendsPairs (last rs .desk)
+
+  agree-on-none : (rs : List (List ℕ)) → (¬ BeginWithPairs rs) → lent-in (last rs) ≡ [] → Agree rs
+  agree-on-none rs never e = (λ p. absurd (never p), λ l. absurd (lends-none (last rs .desk) e l))
+
+  agree-on-some : (rs : List (List ℕ)) → BeginWithPairs rs → lent-in (last rs) ≢ [] → Agree rs
+  agree-on-some rs p h = (λ _. lends-some (last rs .desk) h, λ _. p)
+
+  first-refused : (r : List ℕ) (rs : List (List ℕ)) (n : ℕ) → (¬ BeginWithPairs (r ∷ rs)) → read-record room fresh r ≡ refuse fresh n
+      → Agree (r ∷ rs)
+  first-refused r rs n never e =
+      agree-on-none (r ∷ rs) never
+      (ap lent-in (ap (λ (y : Reading). reads room cut y rs) e ∙ stopped room cut fresh n rs))
+
+  module _ (r : List ℕ) (is-first : is-settings r ≡ true) (range : in-range (settings r) ≡ true) where
+    abbrev fresh-one : Machine
+    fresh-one = fresh-machine (settings r)
+
+    abbrev begun : Reading
+    begun = at-desk (opened fresh-one) [] (length r)
+
+    begins : (rs : List (List ℕ)) → reads room cut fresh (r ∷ rs) ≡ reads room cut begun rs
+    begins = behind-opened r cut is-first range room
+
+    alone : lent-in (reads room cut begun []) ≡ []
+    alone = both-ways (λ (y : Reading). lent-in y ≡ []) (is-cut (opened fresh-one) cut) refl refl
+
+    module _ (q : List ℕ) (rs : List (List ℕ)) where
+      -- a list
+      agree-bad : is-list q ≡ true → lent-good (list q) ≡ false → Agree (r ∷ (q ∷ rs))
+      agree-bad l e =
+          agree-on-none (r ∷ (q ∷ rs)) (λ p. true≢false (sym (p .3) ∙ e))
+          (ap lent-in (begins (q ∷ rs) ∙ ap (λ (y : Reading). reads room cut y rs) (refuses r cut is-first range q rs l e room)
+          ∙ stopped room cut begun 12 rs))
+
+      agree-good : is-list q ≡ true → lent-good (list q) ≡ true → Agree (r ∷ (q ∷ rs))
+      agree-good l good = by (list q .pairs) refl
+        where
+          is-lent : lent-in (reads room cut fresh (r ∷ (q ∷ rs))) ≡ list q .pairs
+          is-lent =
+              ap lent-in (begins (q ∷ rs) ∙ ap (λ (y : Reading). reads room cut y rs) (lends r cut is-first range q rs l good room))
+              ∙ reads-lends room cut (list q .pairs) (at-desk (running (list q) fresh-one) [] (length r + length q)) rs refl
+
+          by : (ps : List Pair) → list q .pairs ≡ ps → Agree (r ∷ (q ∷ rs))
+          by [] e = agree-on-none (r ∷ (q ∷ rs)) (λ p. p .4 e) (is-lent ∙ e)
+          by (p ∷ ps) e =
+              let some-pairs : list q .pairs ≢ [] = λ z. cons-ne-nil p ps (sym e ∙ z) in
+              agree-on-some (r ∷ (q ∷ rs)) (is-first, range, l, good, some-pairs) (λ z. some-pairs (sym is-lent ∙ z))
+
+    agree-behind : (rs : List (List ℕ)) → Agree (r ∷ rs)
+    agree-behind [] = agree-on-none (r ∷ []) (λ p. p) (ap lent-in (begins []) ∙ alone)
+    agree-behind (q ∷ rs) =
+        either (is-list q)
+        (λ l. either (lent-good (list q)) (agree-good q rs l) (agree-bad q rs l))
+        (λ l. agree-on-none (r ∷ (q ∷ rs)) (λ p. true≢false (sym (p .2) ∙ l))
+        (ap lent-in (begins (q ∷ rs)) ∙ none-lent room cut fresh-one (length r) q rs l))
+
+  agree : (rs : List (List ℕ)) → Agree rs
+  agree [] = agree-on-none [] (λ p. p) refl
+  agree (r ∷ rs) =
+      either (is-settings r)
+      (λ e. either (in-range (settings r)) (λ range. agree-behind r e range rs)
+      (λ f. first-refused r rs 1 (not-in-range r rs f) (first-out-of-range r e f room)))
+      (λ e. first-refused r rs 7 (not-settings r rs e) (first-not-settings r e room))
+
+with-pairs-lent : (room : ℕ) (log : List ℕ) → WithPairs log ↔ LendsPairs (read room log .desk)
+with-pairs-lent room log = rw (read-records room log) (agree room (tail-of log) (records-of log))
+
 -- The answer with a run of some room.
 module _ (room : ℕ) (log : List ℕ) where
   -- what is compared is the reader's
@@ -391,6 +557,7 @@ words-length log = go (log-compared log)
 pub same-as-reader : Same-as-reader
 same-as-reader room log =
     record {
+      with-pairs = with-pairs-lent room log;
       same = same room log;
       same-answer = λ never h. ap answer-of (same room log never h);
       words-length = words-length log;

@@ -59,6 +59,7 @@ tried-logs =
     (opens ++ at 1 0 0 ++ at 1 1 1 ++ at 1 2 2 ++ at 1 3 3 ++ at 1 4 4 ++ at 1 5 5 ++ at 1 0 6 ++ at 1 6 7) (answers 11 "．ひすふへ" 99 1) ∷
     -- a list of no pairs is none; one with a pair is refused before all that follows, but after its own 12
     tried "no pair" 4 (opens ++ no-pair 50 ++ saigai 270) (answers 0 "さいがい" 144 0) ∷
+    tried "no pair, T_s 1000 and N 99" 4 (opens ++ (3 ∷ 0 ∷ 3 ∷ 3 ∷ 232 ∷ 99 ∷ []) ++ saigai 270) (answers 0 "さいがい" 144 0) ∷
     tried "no pair, T_s out of range" 4 (opens ++ no-pair 49 ++ saigai 270) (refused 12 8) ∷
     tried "a pair" 4 (opens ++ one-pair 50 ++ saigai 270) (refused 14 8) ∷
     tried "a pair, T_s out of range" 4 (opens ++ one-pair 49 ++ saigai 270) (refused 12 8) ∷

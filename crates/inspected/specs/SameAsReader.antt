@@ -10,7 +10,7 @@ use Rattle.rules.specs.Numbers.{in-range}
 use Rattle.rules.specs.Pairs.{lent-good}
 use Rattle.keylog.specs.Records.{is-settings, settings, is-list, list}
 use Rattle.keylog.specs.LogRecords.{records-of}
-use Rattle.keylog.specs.Reader.{Reading, read, number-of, waiting-of}
+use Rattle.keylog.specs.Reader.{Desk, closed, opened, running, Reading, read, number-of, waiting-of}
 use Rattle.keylog.specs.Reader as reader
 use Rattle.inspected.specs.OfLog.{Opined, refused, on-log, opined, answer-of}
 
@@ -28,8 +28,16 @@ BeginWithPairs (r ∷ (q ∷ rs)) =
 abbrev pub WithPairs : List ℕ → Type 0
 WithPairs log = BeginWithPairs (records-of log)
 
+-- the reader's desk lends pairs
+abbrev pub LendsPairs : Desk → Type 0
+LendsPairs closed = ⊥
+LendsPairs (opened m) = ⊥
+LendsPairs (running g m) = g .pairs ≢ []
+
 -- of every room and log
 pub record SameAsReader (room : ℕ) (log : List ℕ) : Type 0 where
+  -- with pairs is where the reader came to lend some
+  pub with-pairs : WithPairs log ↔ LendsPairs (read room log .desk)
   -- without pairs and with room for its words: the reader's answer, the words themselves too
   pub same : (¬ WithPairs log) → length (on-log log .words) ≤ room → opined room log ≡ as-read (read room log)
   pub same-answer : (¬ WithPairs log) → length (on-log log .words) ≤ room → answer-of (opined room log) ≡ reader.answer-of (read room log)
