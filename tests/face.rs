@@ -12,6 +12,7 @@ use trabeculon_model::log::{Answer, RawSettings};
 use trabeculon_model::model::Event;
 use trabeculon_model::pairs::Lent;
 use trabeculon_model::pieces::{FlatReader, PieceRead};
+use trabeculon_model::row::{Board, Told};
 
 extern "C" {
     fn trabeculon_read_log(log: *const u8, log_len: usize, out: *mut u8, out_len: usize) -> Answer;
@@ -34,6 +35,28 @@ extern "C" {
         n: u8,
         stamp: Stamp,
     ) -> Asked;
+    fn trabeculon_row_step(
+        row: *mut Flat,
+        row_len: usize,
+        pairs: *const u32,
+        pairs_len: usize,
+        ts: u16,
+        n: u8,
+        board: Board,
+        kind: u8,
+        key: u8,
+        stamp: Stamp,
+    ) -> Told;
+    fn trabeculon_row_distance(
+        row: *const Flat,
+        row_len: usize,
+        pairs: *const u32,
+        pairs_len: usize,
+        ts: u16,
+        n: u8,
+        board: Board,
+        stamp: Stamp,
+    ) -> Asked;
     fn trabeculon_reader_fresh() -> FlatReader;
     fn trabeculon_reader_piece(
         reader: FlatReader,
@@ -51,6 +74,7 @@ const _: () = assert!(size_of::<Stamp>() == 8 && size_of::<Asked>() == 16);
 const _: () = assert!(size_of::<Flat>() == 56 && size_of::<Opened>() == 64);
 const _: () = assert!(size_of::<Stepped>() == 80 && size_of::<Answer>() == 24);
 const _: () = assert!(size_of::<FlatReader>() == 120 && size_of::<PieceRead>() == 144);
+const _: () = assert!(size_of::<Told>() == 20);
 
 pub fn read_log(log: &[u8], out: &mut [u8]) -> Answer {
     // Sound: both pairs are a slice's own pointer and length, and don't overlap. So below.
@@ -76,6 +100,23 @@ pub fn distance(lent: &Lent, flat: &Flat, stamp: u64) -> Asked {
     let list = numbers(lent);
     let (pairs, length) = (list.as_ptr(), list.len());
     unsafe { trabeculon_distance(*flat, pairs, length, lent.ts, lent.n, at(stamp)) }
+}
+
+/// The row is lent, and its states are written there.
+pub fn row_step(lent: &Lent, row: &mut [Flat], board: Board, event: Event) -> Told {
+    let (list, Event { kind, key, stamp }) = (numbers(lent), event);
+    let (pairs, length, stamp) = (list.as_ptr(), list.len(), at(stamp));
+    let (states, count) = (row.as_mut_ptr(), row.len());
+    unsafe {
+        trabeculon_row_step(states, count, pairs, length, lent.ts, lent.n, board, kind, key, stamp)
+    }
+}
+
+pub fn row_distance(lent: &Lent, row: &[Flat], board: Board, stamp: u64) -> Asked {
+    let list = numbers(lent);
+    let (pairs, length, stamp) = (list.as_ptr(), list.len(), at(stamp));
+    let (states, count) = (row.as_ptr(), row.len());
+    unsafe { trabeculon_row_distance(states, count, pairs, length, lent.ts, lent.n, board, stamp) }
 }
 
 pub fn reader_fresh() -> FlatReader {
