@@ -289,7 +289,8 @@ trabeculon_drill trabeculon_write_drill(uint16_t t, uint8_t j, uint8_t l,
  * 64 pairs, in any order, and in a pair the keys in any order; no pair twice,
  * no key with itself, keys below 31, the character U+0020 to U+FFFF and no
  * surrogate; ts, T_s in milliseconds, 50 to 1,000; n, N in percent, 1 to 99.
- * Anything else is refused 12, before all other numbers. The caller lends
+ * Anything else is refused 12, before all other numbers (at a row 13 comes
+ * before it, see below). The caller lends
  * pairs_len readable numbers at pairs, so many pairs, aligned as a uint32_t is;
  * the pointer is not null even if there are none. A host without pairs lends a
  * list of length 0, with any ts and n in range, and all is as if there were no
@@ -549,7 +550,8 @@ trabeculon_asked trabeculon_distance(trabeculon_machine machine,
  * where it lies; then trabeculon_row_distance, with the same row and number.
  * For each keyboard it does what "A live keyboard" says: each has its own
  * clock, and a screen and a committed line of its own. One list of pairs, ts
- * and n serve the row.
+ * and n serve the row; to change them wait until no machine in it is in state 7
+ * or 8.
  *
  * An event answers what trabeculon_step answers for that machine alone, does
  * the same to the machine in the row, and leaves every other byte of the row as
@@ -557,11 +559,13 @@ trabeculon_asked trabeculon_distance(trabeculon_machine machine,
  * keyboard gets depends neither on what the others hold or get nor on its place
  * in the row, and no stamp is ever compared with one of another keyboard. The
  * host may put other numbers in a place of the row between any two calls, say
- * those of a keyboard that it opens now, or lend a longer row.
+ * those of a keyboard that it opens now, or lend a longer row of at most 16.
  *
- * Proved: calls at rows are, for each keyboard, calls of trabeculon_step with
- * its own events (Own-calls); two hosts whose keyboards get the same events
- * from the same numbers see the same there, whatever else their rows hold
+ * Proved: while the host leaves a keyboard's own numbers alone and lends one
+ * list, ts and n, calls at rows are, for that keyboard, calls of trabeculon_step
+ * with its own events (Own-calls); two hosts who lend the same, whose keyboards
+ * get the same events from the same numbers, see the same there, whatever else
+ * their rows hold
  * (Isolated-numbers); a keyboard that was opened and then got calls at the row
  * alone is answered as document 01 answers its own events, its screen and line
  * are its own, and demand 3 holds of them (Opened-in-row, all three in
