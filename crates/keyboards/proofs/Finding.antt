@@ -1,7 +1,7 @@
 -- One keyboard of a row of numbers: what finding it says of the row, and what an event or an asking there comes to.
 use Prim.Native.Nat.{ℕ}
 use mathlib.Core.List.{List}
-use mathlib.Core.Logic.{_≢_, inl, inr}
+use mathlib.Core.Logic.{inl, inr}
 use mathlib.Core.Option.{Option, none, some, Option·none-ne-some}
 use mathlib.Core.Path.{_≡_, refl, sym, _∙_}
 use lib.Dec.{leb}
@@ -15,7 +15,7 @@ use Rattle.flat.specs.declared.Flat.{Flat}
 use Rattle.keyboard.specs.Keyboard.{step-numbers, distance-numbers}
 use Rattle.row.specs.Row.{most-keyboards}
 use Rattle.row.specs.RowFacts.{NoKeyboard}
-use Rattle.row.proofs.Found.{none-past, past-if-none, set-same, set-other}
+use Rattle.row.proofs.Found.{none-past, past-if-none, set-same}
 use Rattle.keyboards.specs.Keyboards.{keyboard-numbers, refused-13, answered-at, row-step-numbers, not-asked, row-distance-numbers}
 use Rattle.keyboards.specs.KeyboardsFacts.{FoundNumbers}
 
@@ -77,11 +77,7 @@ module _ (row : List Flat) (k : ℕ) where
   unfolding row-distance-numbers
   distance-nowhere g now h = rw h
 
-  -- a keyboard's own numbers put in their place, and another's
+  -- a keyboard's own numbers put in their place
   pub put-own : (f a : Flat) → FoundNumbers row k f → FoundNumbers (set row k a) k a
   put-own f a found =
       record { not-above-16 = rw (length-set row k a) (found .not-above-16); stands = set-same row k f a (found .stands) }
-
-  pub put-other : (j : ℕ) (f a : Flat) → k ≢ j → FoundNumbers row k f → FoundNumbers (set row j a) k f
-  put-other j f a h found =
-      record { not-above-16 = rw (length-set row j a) (found .not-above-16); stands = set-other row j k a h ∙ found .stands }
