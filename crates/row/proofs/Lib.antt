@@ -5,4 +5,4 @@ pub mod Placed
 pub mod RowFacts
 pub mod RowRuns
 pub mod RowCalls
-mod Tried
+pub mod Tried

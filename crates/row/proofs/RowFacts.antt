@@ -19,7 +19,7 @@ use Rattle.rules.specs.declared.Event.{Event}
 use Rattle.rules.specs.declared.Input.{Input}
 use Rattle.rules.proofs.Choices.{both-ways}
 use Rattle.rules.proofs.Refusals.{refusals}
-use Rattle.rules.proofs.DistanceFacts.{same-refusals}
+use Rattle.rules.proofs.DistanceFacts.{same-refusals, distance-facts}
 use Rattle.row.specs.Row.{keyboard, RowAnswer, refused-13, answered-at, step-at, asking-at}
 use Rattle.row.specs.RowFacts.{NoKeyboard, Found, RowFacts, RowAskingFacts}
 use Rattle.row.proofs.Found.{set-same, set-other, set-as-is, found-in, none-found, none-why, is-there}
@@ -121,6 +121,7 @@ module _ (g : Lent) (row : List Machine) (k : ℕ) (now : Stamp) where
           λ p. no-keyboard-there row k h (p .0),
         );
         else-its-own = λ not-due. no-keyboard-there row k h not-due;
+        same-refusals = rw (at, step-nowhere row k g (tick now) h);
       }
 
   asking-facts-here : (m : Machine) → Found row k m → RowAskingFacts g row k now
@@ -138,7 +139,13 @@ module _ (g : Lent) (row : List Machine) (k : ℕ) (now : Stamp) where
           λ n. (not-13 row k m f, refusals g m (tick now) .gives-12 .0 (sym number-is ∙ n)),
           λ p. number-is ∙ refusals g m (tick now) .gives-12 .1 (p .1),
         );
-        else-its-own = λ _. record { machine = m; found = f; same-asking = at };
+        else-its-own = λ _. record {
+          machine = m;
+          found = f;
+          same-asking = at;
+          distance-facts = λ n. distance-facts g m now (ap (λ (a : Asking). a .number) (sym at) ∙ n);
+        };
+        same-refusals = number-is ∙ ap (λ (a : RowAnswer). a .number) (sym (step-here row k g (tick now) m f));
       }
 
 pub row-asking-facts : (g : Lent) (row : List Machine) (k : ℕ) (now : Stamp) → RowAskingFacts g row k now

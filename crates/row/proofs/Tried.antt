@@ -1,124 +1,120 @@
--- Events at rows, tried on concrete ones, so that no law of a row holds for want of cases: what they come to by computation, and
--- isolation, demand 3 and the moved clock where their premises are met.
+-- Events at rows, tried on concrete ones: by computation.
 use Prim.Native.Nat.{ℕ}
-use mathlib.Core.Bool.{true}
-use mathlib.Core.List.{List, [], _∷_}
-use mathlib.Core.Path.{_≡_, refl}
+use mathlib.Core.List.{List, [], _∷_, map}
+use mathlib.Core.Path.{_≡_, refl, ap}
 use lib.Count.{onesIn}
 use lib.Dec.{lit≤}
-use lib.ListN.{replicate}
+use lib.ListN.{getD}
 use Rattle.rules.specs.Numbers.{in-range, up, A, B, FJ, FL}
 use Rattle.rules.specs.Pairs.{Lent, pair-of, in-some-pair, none-twice, each-good, lent-good, no-pairs, alone}
 use Rattle.rules.specs.Layout.{table, code-point}
-use Rattle.rules.specs.LayoutFacts.{key}
 use Rattle.rules.specs.Held.{is-held, hold, release, how-many, held-formed}
-use Rattle.rules.specs.States.{at, fresh, well-formed}
+use Rattle.rules.specs.States.{fresh, opening, well-formed}
 use Rattle.rules.specs.OneEvent.{mark, same-thumb, same-key, second-character-takes-thumb, second-thumb-takes-character, short-overlap}
 use Rattle.rules.specs.OneEvent.{settle-in, settle, one-event}
 use Rattle.rules.specs.ZeroDelay.{character, sent}
-use Rattle.rules.specs.GivenBack.{Answer, input, is-new, judge, step-with, step}
+use Rattle.rules.specs.GivenBack.{input, is-new, judge, step-with, step}
 use Rattle.rules.specs.Distance.{asking-with, asking}
-use Rattle.rules.specs.Sequences.{items-in}
-use Rattle.rules.specs.Examples.{usual, with-solo, が, to-wait}
+use Rattle.rules.specs.Examples.{usual, with-solo}
 use Rattle.rules.specs.declared.Machine.{Machine}
-use Rattle.rules.specs.declared.Event.{Event}
 use Rattle.rules.proofs.Tried.{all-stay}
-use Rattle.row.specs.Row.{keyboard, step-at, asking-at}
+use Rattle.preview.specs.Views.{listed, sending-list, packed-sendings}
+use Rattle.row.specs.Row.{keyboard, RowAnswer, step-at, asking-at}
+use Rattle.row.specs.Views.{TellsAt}
 use Rattle.row.specs.RowFacts.{Found}
-use Rattle.row.specs.RowRuns.{RowEvent, row-after, events-of, row-along, SameKeyboard, Demand3At, ClockMovedAt}
-use Rattle.row.proofs.RowRuns.{isolated, demand-3-at, clock-moved-at}
+use Rattle.row.specs.RowRuns.{RowEvent, row-step, events-of}
+use Rattle.row.specs.RowCalls.{Called, HandedOn, no-call, handed, RowCalls, no-more, call}
+use Rattle.row.specs.Tried.{at-board, row-answers, two, mixed, others, later-on, Computed, Called-with, Grown, Met}
+use Rattle.row.proofs.RowCalls.{packed-items, row-of-the-code}
 
--- keyboard, kind, key, stamp
-at-board : ℕ → ℕ → ℕ → ℕ → RowEvent
-at-board k kind c n = record { board = k; event = record { kind = kind; key = key c; stamp = at n } }
-
-two : List Machine
-two = fresh usual ∷ fresh with-solo ∷ []
-
--- A chord at keyboard 0, 21@1000, R@1030, 21 up@1060, with a key out of range (refused 3) in it; between them keyboard 1, whose clock
--- is far behind, 21@5, then 24@3 (refused 5), a keyboard that the row does not have, and a tick at keyboard 0 before its last (refused 5).
-mixed : List RowEvent
-mixed =
-    at-board 0 1 21 1_000 ∷ at-board 1 1 21 5 ∷ at-board 0 1 31 1_010 ∷ at-board 0 3 1 1_030 ∷ at-board 1 1 24 3 ∷ at-board 2 1 21 0
-    ∷ at-board 0 2 21 1_060 ∷ at-board 0 6 0 5 ∷ []
-
--- the same keyboard at another place of another row, whose other keyboards hold and get something else, two seconds later too
-three : List Machine
-three = fresh with-solo ∷ fresh with-solo ∷ fresh usual ∷ []
-
-others : List RowEvent
-others =
-    at-board 2 1 21 1_000 ∷ at-board 2 1 31 1_010 ∷ at-board 0 1 24 7 ∷ at-board 2 3 1 1_030 ∷ at-board 2 2 21 1_060 ∷ at-board 1 5 0 0
-    ∷ at-board 2 6 0 5 ∷ []
-
-later-on : List RowEvent
-later-on =
-    at-board 2 1 21 3_000 ∷ at-board 2 1 31 3_010 ∷ at-board 0 1 24 7 ∷ at-board 2 3 1 3_030 ∷ at-board 2 2 21 3_060 ∷ at-board 2 6 0 2_005
-    ∷ []
-
-number-in : Machine → Event → Answer → List ℕ
-number-in m e r = r .number ∷ []
-
--- N is 0: not good
-bad : Lent
-bad = record { pairs = []; t-s = 50; n = 0 }
-
-abbrev press : Event
-press = record { kind = 1; key = key 21; stamp = at 0 }
-
--- What they come to.
-record Computed : Type 0 where
-  numbers-0 : row-along no-pairs number-in 0 two mixed ≡ 0 ∷ 3 ∷ 0 ∷ 0 ∷ 5 ∷ []
-  numbers-1 : row-along no-pairs number-in 1 two mixed ≡ 0 ∷ 5 ∷ []
-  items-0 : row-along no-pairs items-in 0 two mixed ≡ が ∷ []
-  asked-1 : asking-at no-pairs (row-after no-pairs two mixed) 1 (at 5) ≡ to-wait 100
-  sixteen : step-at no-pairs (replicate 16 (fresh usual)) 15 press .number ≡ 0
-  past-sixteen : step-at no-pairs (replicate 16 (fresh usual)) 16 press .number ≡ 13
-  seventeen : step-at no-pairs (replicate 17 (fresh usual)) 0 press .number ≡ 13
-  no-row : step-at no-pairs [] 0 press .number ≡ 13
-  bad-list : step-at bad two 1 press .number ≡ 12
-  bad-list-past : step-at bad two 2 press .number ≡ 13
-  asked-past : asking-at bad two 2 (at 0) .number ≡ 13
-  asked-bad : asking-at bad two 1 (at 0) .number ≡ 12
-
-computed : Computed
-unfolding at-board two mixed number-in bad keyboard step-at asking-at asking asking-with step step-with lent-good none-twice each-good in-some-pair alone pair-of judge is-new input well-formed is-held hold release how-many held-formed onesIn in-range one-event settle settle-in mark same-thumb same-key second-character-takes-thumb second-thumb-takes-character short-overlap sent character code-point table up A B FJ FL
-computed =
+-- a call that answers and leaves what the definition says, where its items and sendings are ones that can be told
+abbrev called : RowAnswer → Called
+called a =
     record {
-      numbers-0 = refl;
-      numbers-1 = refl;
-      items-0 = refl;
-      asked-1 = refl;
-      sixteen = refl;
-      past-sixteen = refl;
-      seventeen = refl;
-      no-row = refl;
-      bad-list = refl;
-      bad-list-past = refl;
-      asked-past = refl;
-      asked-bad = refl;
+      told = record { number = a .number; items = packed-items (a .items); sendings = packed-sendings (a .sendings) };
+      row = a .row;
     }
 
-found-0 : Found two 0 (fresh usual)
-unfolding two
-found-0 = record { not-above-16 = lit≤ tt; stands = refl }
+abbrev read-back : RowAnswer → RowAnswer
+read-back a =
+    record {
+      number = a .number;
+      items = listed (packed-items (a .items));
+      sendings = sending-list (packed-sendings (a .sendings));
+      row = a .row;
+    }
 
-found-2 : Found three 2 (fresh usual)
-unfolding three
-found-2 = record { not-above-16 = lit≤ tt; stands = refl }
+tells : (a : RowAnswer) → read-back a ≡ a → TellsAt (called a .told) a
+tells a h =
+    record {
+      number-is = refl;
+      items-are = ap (λ (z : RowAnswer). z .items) h;
+      sendings-are = ap (λ (z : RowAnswer). z .sendings) h;
+      packed = refl;
+    }
 
-apart : SameKeyboard no-pairs 0 2 two three mixed others
-unfolding at-board mixed others
-apart = isolated no-pairs 0 2 two three mixed others (fresh usual) found-0 found-2 refl
+same-head : {a b : RowAnswer} {l k : List RowAnswer} → a ∷ l ≡ b ∷ k → a ≡ b
+same-head h = cc
 
-usual-in-range : in-range usual ≡ true
-unfolding in-range
-usual-in-range = refl
+same-tail : {a b : RowAnswer} {l k : List RowAnswer} → a ∷ l ≡ b ∷ k → l ≡ k
+same-tail h = cc
 
-of-keyboard-0 : Demand3At no-pairs 0 two mixed usual
-of-keyboard-0 = demand-3-at no-pairs 0 two mixed usual usual-in-range found-0
+handed-on : (g : Lent) (row : List Machine) (xs : List RowEvent) → map read-back (row-answers g row xs) ≡ row-answers g row xs
+    → HandedOn g row xs (map called (row-answers g row xs))
+handed-on g row [] h = no-call
+handed-on g row (x ∷ xs) h =
+    handed (tells (row-step g row x) (same-head h), refl) (handed-on g (row-step g row x .row) xs (same-tail h))
 
--- keyboard 0's clock is moved by two seconds; keyboard 1 and the others keep theirs
-moved : ClockMovedAt no-pairs 2_000 0 2 two three mixed later-on usual
-unfolding at-board mixed later-on
-moved = clock-moved-at no-pairs 2_000 0 2 two three mixed later-on usual found-0 found-2 refl (all-stay 2_000 (events-of 0 mixed) refl)
+seen : (k : ℕ) (row : List Machine) (xs : List RowEvent) → Found row k (fresh usual)
+    → map read-back (row-answers no-pairs row xs) ≡ row-answers no-pairs row xs → Called-with k xs
+seen k row xs f h =
+    let calls = map called (row-answers no-pairs row xs) in
+    (calls, row-of-the-code .row-handed-on no-pairs k row (fresh usual) xs calls (handed-on no-pairs row xs h) f)
+
+abbrev three : List Machine
+three = fresh with-solo ∷ fresh with-solo ∷ fresh usual ∷ []
+
+-- the row after keyboard 0's press, with a keyboard more
+abbrev pressed : RowAnswer
+pressed = row-step no-pairs two (at-board 0 1 21 1_000)
+
+abbrev longer : List Machine
+longer = getD (pressed .row) 0 (fresh usual) ∷ fresh usual ∷ fresh with-solo ∷ []
+
+abbrev chord : RowAnswer
+chord = row-step no-pairs longer (at-board 0 3 1 1_030)
+
+pub tried : Computed × Met
+unfolding keyboard step-at asking-at asking asking-with step step-with lent-good none-twice each-good in-some-pair alone pair-of judge is-new input well-formed is-held hold release how-many held-formed onesIn in-range opening one-event settle settle-in mark same-thumb same-key second-character-takes-thumb second-thumb-takes-character short-overlap sent character code-point table up A B FJ FL
+tried = (
+  record {
+    numbers = refl;
+    items = refl;
+    asked-1 = refl;
+    sixteen = refl;
+    past-sixteen = refl;
+    seventeen = refl;
+    no-row = refl;
+    bad-list = refl;
+    bad-list-past = refl;
+    asked-past = refl;
+    asked-bad = refl;
+  },
+  record {
+    is-opened = refl;
+    called = seen 0 two mixed (record { not-above-16 = lit≤ tt; stands = refl }) refl;
+    called-apart = seen 2 three others (record { not-above-16 = lit≤ tt; stands = refl }) refl;
+    same-events = refl;
+    called-later = seen 2 three later-on (record { not-above-16 = lit≤ tt; stands = refl }) refl;
+    same-moved = refl;
+    all-stay = all-stay 2_000 (events-of 0 mixed) refl;
+    grown = record {
+      called = called pressed ∷ called chord ∷ [];
+      calls = call {after = getD (pressed .row) 0 (fresh usual)} {row = two} (record { not-above-16 = lit≤ tt; stands = refl })
+          (tells pressed refl, refl) (record { not-above-16 = lit≤ tt; stands = refl })
+          (call {after = getD (chord .row) 0 (fresh usual)} {row = longer} (record { not-above-16 = lit≤ tt; stands = refl })
+          (tells chord refl, refl) (record { not-above-16 = lit≤ tt; stands = refl }) no-more);
+      lengths = refl;
+    };
+  },
+)

@@ -3,3 +3,4 @@ pub mod Views
 pub mod RowFacts
 pub mod RowRuns
 pub mod RowCalls
+pub mod Tried

@@ -10,6 +10,8 @@ use Rattle.rules.specs.Pairs.{Lent}
 use Rattle.rules.specs.GivenBack.{step}
 use Rattle.rules.specs.Refusals.{NotGood}
 use Rattle.rules.specs.Distance.{not-answered, asking}
+use Rattle.rules.specs.DistanceFacts.{DistanceFacts}
+use Rattle.rules.specs.Demand3.{tick}
 use Rattle.rules.specs.declared.Stamp.{Stamp}
 use Rattle.rules.specs.declared.Machine.{Machine}
 use Rattle.rules.specs.declared.Event.{Event}
@@ -54,14 +56,17 @@ pub record RowFacts (g : Lent) (row : List Machine) (k : ℕ) (e : Event) : Type
   pub same-length : length (step-at g row k e .row) ≡ length row
   pub others-stay : (j : ℕ) → j ≢ k → getElem? (step-at g row k e .row) j ≡ getElem? row j
 
--- the same of an asking, which leaves the row alone
+-- The same of an asking, which leaves the row alone. Where it answers, what a host leans on holds of the keyboard's own state.
 pub record AskingItsOwn (g : Lent) (row : List Machine) (k : ℕ) (now : Stamp) : Type 0 where
   pub machine : Machine
   pub found : Found row k machine
   pub same-asking : asking-at g row k now ≡ asking g machine now
+  pub distance-facts : asking-at g row k now .number ≡ 0 → DistanceFacts g machine now
 
 pub record RowAskingFacts (g : Lent) (row : List Machine) (k : ℕ) (now : Stamp) : Type 0 where
   pub gives-13 : asking-at g row k now .number ≡ 13 ↔ NoKeyboard (length row) k
   pub no-distance : NoKeyboard (length row) k → asking-at g row k now ≡ not-answered 13
   pub gives-12 : asking-at g row k now .number ≡ 12 ↔ ((¬ NoKeyboard (length row) k) × NotGood g)
   pub else-its-own : ¬ NoKeyboard (length row) k → AskingItsOwn g row k now
+  -- it is refused as a tick there would be
+  pub same-refusals : asking-at g row k now .number ≡ step-at g row k (tick now) .number
