@@ -48,8 +48,8 @@ module _ (n k : ℕ) (t : T (is-keyboard n k)) where
   passed = and-eq-true-iff (leb n most-keyboards) (ltb k n) .0 (holds (is-keyboard n k) t)
 
   -- the row is not above 16
-  pub short : n ≤ 16
-  short = leb-true n 16 (passed .0)
+  pub short : n ≤ most-keyboards
+  short = leb-true n most-keyboards (passed .0)
 
   -- the place is in the row
   pub within : k < n
