@@ -98,7 +98,7 @@ fn put_utf8(out: &mut [u8], at: usize, w: u16) -> usize
 }
 
 // A word's text at a place where it fits.
-fn put(out: &mut [u8], at: usize, w: u16) -> usize
+pub fn put(out: &mut [u8], at: usize, w: u16) -> usize
     requires { ⌜ at + length (sign w) ≤ length (now out) ⌝ }
     ensures { λ r. ⌜ Stored at (sign w) (now (out .entry)) r (now (out .exit)) ⌝ }
 {

@@ -1,0 +1,33 @@
+-- `sheet::put_first` meets its contract.
+use borrow.Author.Needs.{needs}
+use native.Mathlib.Omega.{arith}
+use mathlib.Core.Path.{_∙_}
+use Rattle.sheet.proofs.Sheets.{first-stored}
+use Rattle.sheet.proofs.put_first.Statement.{statement}
+use Rattle.sheet.proofs.put_first.Tie as tie
+
+put-label-requires : tie.Need-put-label-requires
+put-label-requires c κs = omega (arith, c .before .before .before .before .pre .1)
+
+put-words-requires : tie.Need-put-words-requires
+put-words-requires c κs = (c .before .before .before .before .before .before .before .before .pre .0, omega (arith, c .before .before .before .put-label .kept .0, c .before .before .before .put-label .ensures .1, c .before .before .before .before .before .before .before .before .pre .1))
+
+put-bytes-requires : tie.Need-put-bytes-requires
+put-bytes-requires c κs = omega (arith, c .before .before .before .before .put-words .kept .0, c .before .before .before .before .put-words .ensures .behind, c .before .before .before .before .before .before .before .before .put-label .kept .0, c .before .before .before .before .before .before .before .before .put-label .ensures .1, c .before .before .before .before .before .before .before .before .before .before .before .before .before .pre .1)
+
+same-length : tie.Need-same-length
+same-length c = c .before .before .put-bytes .kept .0 ∙ c .before .before .before .before .before .before .before .put-words .kept .0 ∙ c .before .before .before .before .before .before .before .before .before .before .before .put-label .kept .0
+
+returns : tie.Need-returns
+returns c = (first-stored _ _ _ _ _ _ _ _ _ _ (omega (arith, c .before .before .before .before .before .before .before .before .before .before .before .before .before .before .before .before .pre .1)) (c .before .before .before .before .before .before .before .before .before .before .before .put-label .ensures .0) (c .before .before .before .before .before .before .before .put-words .ensures) (c .before .before .put-bytes .ensures), omega (arith, c .before .before .before .before .before .before .before .before .before .before .before .put-label .ensures .1, c .before .before .before .before .before .before .before .put-words .ensures .behind, c .before .before .put-bytes .ensures .behind))
+
+pub put-first-spec : {M : Type 1} → statement M
+put-first-spec =
+    tie.close
+    (tie.spec
+    put-label-requires
+    put-words-requires
+    (λ c. search needs)
+    put-bytes-requires
+    same-length
+    returns)

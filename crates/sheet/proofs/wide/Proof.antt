@@ -1,0 +1,10 @@
+-- `sheet::wide` meets its contract.
+use borrow.Author.Needs.{needs}
+use Rattle.sheet.proofs.wide.Statement.{statement}
+use Rattle.sheet.proofs.wide.Tie as tie
+
+pub wide-spec : {M : Type 1} → statement M
+wide-spec =
+    tie.close
+    (tie.spec
+    (λ c. search needs))
