@@ -1,2 +1,4 @@
 pub mod Back
 pub mod Refusing
+pub mod Matter
+pub mod Forward
