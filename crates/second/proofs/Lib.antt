@@ -2,3 +2,5 @@ pub mod Back
 pub mod Refusing
 pub mod Matter
 pub mod Forward
+pub mod Waits
+pub mod Deciding
