@@ -4,3 +4,5 @@ pub mod Matter
 pub mod Forward
 pub mod Waits
 pub mod Deciding
+pub mod Tally
+pub mod Sizes

@@ -6,3 +6,4 @@ mod decisions;
 mod looking;
 mod places;
 mod refusals;
+mod telling;
