@@ -6,3 +6,4 @@ pub mod Waits
 pub mod Deciding
 pub mod Tally
 pub mod Sizes
+pub mod Finding

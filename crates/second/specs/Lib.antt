@@ -1,3 +1,4 @@
 pub mod Places
 pub mod Views
 pub mod Telling
+pub mod Finding

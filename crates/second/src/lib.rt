@@ -3,6 +3,7 @@
 // writes them if they all fit.
 mod deadlines;
 mod decisions;
+mod found;
 mod looking;
 mod places;
 mod refusals;
