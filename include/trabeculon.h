@@ -729,15 +729,14 @@ trabeculon_asked trabeculon_row_distance(const trabeculon_machine *row,
  * they name a machine and opened is 0 or 1; and told is 1, or told and number
  * are 0. That reader is well formed if its machine is, if it has one: with no
  * pairs where opened is 1, else with the list that pairs, ts, n and the row
- * name, which must be one that trabeculon_step accepts (a row that is shorter
- * than pairs says is lent whole); 13 * words <= 2 * offset; offset + count is
- * at most 1,000,000,000,000; count is below the length that the record states,
- * 3 plus 256 times byte 1 plus byte 2, a byte that did not come counting 0;
- * and, if told is 1, number is 0, 1, 3 to 9, 11 or 12 and count is 0. Numbers
- * that name no reader, or one that is not well formed, are refused 2. The fresh
- * reader is well formed, and a call with a well-formed reader and its row,
- * however the host came by them, hands back a well-formed one; so numbers that
- * were saved go on without a 2.
+ * name, which must be one that trabeculon_step accepts; pairs is then at most
+ * 64; 13 * words <= 2 * offset; offset + count is at most 1,000,000,000,000;
+ * count is below the length that the record states, 3 plus 256 times byte 1
+ * plus byte 2, a byte that did not come counting 0; and, if told is 1, number
+ * is 0, 1, 3 to 9, 11 or 12 and count is 0. Numbers that name no reader, or one
+ * that is not well formed, are refused 2. The fresh reader is well formed, and
+ * a call with a well-formed reader and its row, however the host came by them,
+ * hands back a well-formed one; so numbers that were saved go on without a 2.
  *
  * Bits of header, front and tail above the bytes that came say nothing, and a
  * call may leave any bits there. With count 4, say, these are the bits of

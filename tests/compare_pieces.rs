@@ -264,9 +264,7 @@ struct List {
 
 impl List {
     fn of(random: &mut Random, kept: &Kept) -> List {
-        // More pairs than that are as many as the run has.
-        let longer = kept.reader.pairs as usize <= MOST_PAIRS && random.once_in(4);
-        let length = MOST_PAIRS + if longer { random.place(40) } else { 0 };
+        let length = MOST_PAIRS + if random.once_in(4) { random.place(40) } else { 0 };
         let mut numbers: Vec<u32> = (0..length + 2).map(|_| random.next() as u32).collect();
         numbers[1..][..MOST_PAIRS].copy_from_slice(&kept.run);
         List { before: numbers.clone(), numbers, length }

@@ -296,7 +296,7 @@ static void check_no_readers(void) {
     check_2("T_s below 50", reader);
     reader.ts = 50;
     reader.pairs = 65;
-    check_2("65 pairs, in a row that is longer", reader);
+    check_2("65 pairs", reader);
     reader.pairs = 1;
     check_2("a row that is no list", reader);
 
