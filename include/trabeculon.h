@@ -565,10 +565,11 @@ trabeculon_asked trabeculon_distance(trabeculon_machine machine,
  * list, ts and n, calls at rows are, for that keyboard, calls of trabeculon_step
  * with its own events (Own-calls); two hosts who lend the same, whose keyboards
  * get the same events from the same numbers, see the same there, whatever else
- * their rows hold
- * (Isolated-numbers); a keyboard that was opened and then got calls at the row
- * alone is answered as document 01 answers its own events, its screen and line
- * are its own, and demand 3 holds of them (Opened-in-row, all three in
+ * their rows hold (Isolated-numbers); a keyboard that was opened and then got
+ * calls at the row alone is answered as document 01 answers its own events, and
+ * so when it is asked, its screen and line are its own, demand 3 holds of them,
+ * and 5 is given by its own last stamp (Opened-in-row); where the clock of one
+ * keyboard begins does not matter (Moved-in-row, all four in
  * keyboards/specs/KeyboardsRuns.antt); and a row of numbers is stepped and
  * asked as the row of machines that they name (As-machines,
  * keyboards/specs/KeyboardsFacts.antt, over step-at, row/specs/Row.antt).

@@ -22,9 +22,10 @@ use Rattle.flat.specs.Formed.{machine-at}
 use Rattle.flat.specs.declared.Flat.{Flat}
 use Rattle.flat.proofs.Forms.{at-named}
 use Rattle.keyboard.specs.Keyboard.{no-machine-number, refused-numbers, step-named, step-numbers, asked-numbers, distance-numbers}
+use Rattle.keyboard.specs.declared.DistanceAnswer.{DistanceAnswer}
 use Rattle.keyboard.specs.DistanceNumbers.{tick-at}
 use Rattle.keyboard.proofs.HandedOn.{call-answers, keyboard-facts}
-use Rattle.keyboard.proofs.DistanceNumbers.{asks, same-refused-numbers}
+use Rattle.keyboard.proofs.DistanceNumbers.{asks, distance-numbers-facts, same-refused-numbers}
 use Rattle.row.specs.Row.{keyboard, RowAnswer}
 use Rattle.row.specs.RowFacts.{NoKeyboard, Found}
 use Rattle.row.proofs.Found.{set-same, set-other, set-as-is}
@@ -140,27 +141,31 @@ module _ (g : Lent) (row : List Flat) (k : ℕ) where
   pub row-step-facts : (e : Event) → RowStepFacts g row k e
   row-step-facts e = by-found row k (step-nowhere-facts e) (step-here-facts e)
 
+  -- asking is refused as a tick there is
+  refused-as-tick : (now : Stamp) → row-distance-numbers g row k now .number ≡ row-step-numbers g row k (tick-at now) .told .number
+  refused-as-tick now =
+      by-found row k
+      (λ h. rw (distance-nowhere row k g now h, step-nowhere row k g (tick-at now) h))
+      (λ f found. rw (distance-here row k g now f found, step-here row k g (tick-at now) f found) (same-refused-numbers g f now))
+
+  none-asked : (now : Stamp) → NoKeyboard (length row) k → row-distance-numbers g row k now ≡ not-asked
+  none-asked now due =
+      by-found row k (distance-nowhere row k g now) (λ f found. absurd (not-13 row k f found due))
+
   pub row-distance-facts : (now : Stamp) → RowDistanceFacts g row k now
   row-distance-facts now =
-      by-found row k
-      (λ h.
-      let at : row-distance-numbers g row k now ≡ not-asked = distance-nowhere row k g now h in
+      let tick = row-step-facts (tick-at now) in
+      let same = refused-as-tick now in
       record {
-        gives-13 = (λ _. none-why row k h, λ _. rw at);
-        no-distance = λ _. at;
-        as-alone = λ f found. absurd (not-13 row k f found (none-why row k h));
-        same-refusals = rw (at, step-nowhere row k g (tick-at now) h);
-      })
-      (λ f found.
-      let at : row-distance-numbers g row k now ≡ distance-numbers g f now = distance-here row k g now f found in
-      let number-is : row-distance-numbers g row k now .number ≡ step-numbers g f (tick-at now) .number
-      = rw at (same-refused-numbers g f now) in
-      record {
-        gives-13 = (λ n. absurd (number-not-13 g f (tick-at now) (sym number-is ∙ n)), λ due. absurd (not-13 row k f found due));
-        no-distance = λ due. absurd (not-13 row k f found due);
-        as-alone = λ h there. distance-here row k g now h there;
-        same-refusals = rw (at, step-here row k g (tick-at now) f found) (same-refused-numbers g f now);
-      })
+        gives-13 = rw same (tick .gives-13);
+        no-distance = none-asked now;
+        gives-12 = rw same (tick .gives-12);
+        as-alone = λ f found. distance-here row k g now f found;
+        distance-laws = λ f x found names answered.
+            distance-numbers-facts g f x names now
+            (sym (ap (λ (a : DistanceAnswer). a .number) (distance-here row k g now f found)) ∙ answered);
+        same-refusals = same;
+      }
 
 -- Rows of numbers and rows of machines.
 

@@ -1,4 +1,5 @@
--- Calls at a row of numbers are, for each keyboard, calls at its own numbers alone; so isolation, and demand 3 for its own events.
+-- Calls at a row of numbers are, for each keyboard, calls at its own numbers alone; so isolation, and demand 3 and the moved clock for its
+-- own events.
 use Prim.Native.Nat.{ℕ}
 use native.Mathlib.Omega.{arith}
 use mathlib.Core.Bool.{Bool, true, false}
@@ -9,27 +10,32 @@ use lib.Dec.{eqb}
 use lib.ListN.{getElem?}
 use borrow.Author.Tests.{eqb-true, eqb-false}
 use Rattle.rules.specs.Choice.{if_then_else_}
-use Rattle.rules.specs.Numbers.{in-range}
 use Rattle.rules.specs.Pairs.{Lent}
-use Rattle.rules.specs.States.{Opening, opening}
+use Rattle.rules.specs.Numbers.{in-range, settings-of}
+use Rattle.rules.specs.States.{Opening, opening, later}
+use Rattle.rules.specs.GivenBack.{step}
+use Rattle.rules.specs.Sequences.{state}
 use Rattle.rules.specs.declared.Settings.{Settings}
 use Rattle.rules.specs.declared.Event.{Event}
 use Rattle.rules.proofs.Choices.{by-test}
 use Rattle.rules.proofs.Demand3.{demand-3}
+use Rattle.rules.proofs.LastAccepted.{last-accepted}
 use Rattle.flat.specs.declared.Flat.{Flat}
-use Rattle.keyboard.specs.Keyboard.{step-numbers, distance-numbers}
+use Rattle.keyboard.specs.Keyboard.{open-numbers, step-numbers, distance-numbers}
 use Rattle.keyboard.specs.KeyboardFacts.{KeyboardCalls, KeyboardRun, last-numbers}
 use Rattle.keyboard.specs.KeyboardFacts as one
 use Rattle.keyboard.specs.declared.OpenAnswer.{OpenAnswer}
 use Rattle.keyboard.specs.declared.StepAnswer.{StepAnswer}
-use Rattle.keyboard.proofs.HandedOn.{keyboard-facts}
+use Rattle.keyboard.proofs.HandedOn.{call-answers, keyboard-facts}
 use Rattle.keyboard.proofs.HostScreen.{host-facts}
+use Rattle.keyboard.proofs.DistanceNumbers.{asks}
+use Rattle.keyboard.proofs.MovedKeyboard.{keyboard-moved}
 use Rattle.row.specs.RowRuns.{RowEvent, events-of}
 use Rattle.keyboards.specs.Keyboards.{RowNumbers, row-step-numbers}
 use Rattle.keyboards.specs.KeyboardsFacts.{FoundNumbers}
 use Rattle.keyboards.specs.KeyboardsRuns.{RowCalls, no-more, call, Row-handed-on, own-answer, answers-of, Own-calls}
-use Rattle.keyboards.specs.KeyboardsRuns.{Isolated-numbers, Opened-in-row}
-use Rattle.keyboards.proofs.Finding.{distance-here}
+use Rattle.keyboards.specs.KeyboardsRuns.{Isolated-numbers, Opened-in-row, Moved-in-row}
+use Rattle.keyboards.proofs.Finding.{step-here, distance-here}
 use Rattle.keyboards.proofs.KeyboardsFacts.{row-step-facts}
 
 -- the numbers that are found at a place are the ones that stand there
@@ -124,16 +130,48 @@ opened-in-range : (s : Settings) → opening s .number ≡ 0 → in-range s ≡ 
 unfolding opening
 opened-in-range s = by-test (λ (o : Opening). o .number ≡ 0 → in-range s ≡ true) (in-range s) (λ h _. h) (λ _ z. absurd (omega arith))
 
+-- a keyboard that was opened and got calls at a row has a run of its own
+run-of : (g : Lent) (k : ℕ) (s : Settings) (first : OpenAnswer) (xs : List RowEvent) (rs : List RowNumbers)
+    → first ≡ open-numbers (opening (settings-of (s .t) (s .j) (s .l) (s .solo))) → first .number ≡ 0
+    → RowCalls g k (first .machine) xs rs
+    → KeyboardRun g s first (events-of k xs) (answers-of k xs rs)
+run-of g k s first xs rs opened-as opened-well calls =
+    record { opened-as = opened-as; opened-well = opened-well; calls = own-calls g k (first .machine) xs rs calls }
+
 pub opened-in-row : Opened-in-row
 opened-in-row g k s first xs rs opened-as opened-well calls =
-    let run : KeyboardRun g s first (events-of k xs) (answers-of k xs rs)
-    = record { opened-as = opened-as; opened-well = opened-well; calls = own-calls g k (first .machine) xs rs calls } in
+    let run = run-of g k s first xs rs opened-as opened-well calls in
     let zero : opening s .number ≡ 0 = sym (ap (λ (a : OpenAnswer). a .number) opened-as) ∙ opened-well in
+    let last = last-numbers (first .machine) (answers-of k xs rs) in
+    let after = state g s (events-of k xs) in
+    let names = keyboard-facts g .names-last run in
     record {
       is-run = run;
       answers-are = keyboard-facts g .runs run;
-      names-last = keyboard-facts g .names-last run;
+      names-last = names;
       line-is = host-facts g .line-is run;
       screen-is = host-facts g .screen-is run;
       demand-3-holds = demand-3 g s (opened-in-range s zero) (events-of k xs);
+      same-asked = λ row now found. distance-here row k g now last found ∙ asks g last after names now;
+      own-last-stamp = λ good row e found.
+          let at : row-step-numbers g row k e .told .number ≡ step g after e .number
+          = ap (λ (a : RowNumbers). a .told .number) (step-here row k g e last found)
+          ∙ ap (λ (a : StepAnswer). a .number) (call-answers g last after e names) in
+          rw at (last-accepted g good s (opened-in-range s zero) (events-of k xs) .gives-5 e);
+    }
+
+pub moved-in-row : Moved-in-row
+moved-in-row g d k j s first xs ys rs qs opened-as opened-well c c′ moved stay =
+    let run = run-of g k s first xs rs opened-as opened-well c in
+    let other-run = subst (λ (es : List Event). KeyboardRun g s first es (answers-of j ys qs)) moved
+    (run-of g j s first ys qs opened-as opened-well c′) in
+    let both = keyboard-moved g d s (events-of k xs) stay first first (answers-of k xs rs) (answers-of j ys qs) run other-run in
+    let last = last-numbers (first .machine) (answers-of k xs rs) in
+    let other-last = last-numbers (first .machine) (answers-of j ys qs) in
+    record {
+      own-moved = both;
+      same-distance = λ row other now stays found there.
+          distance-here other j g (later now d) other-last there
+          ∙ both .same-distance now stays
+          ∙ sym (distance-here row k g now last found);
     }

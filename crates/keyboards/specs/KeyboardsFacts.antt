@@ -17,7 +17,7 @@ use Rattle.flat.specs.Fields.{named}
 use Rattle.flat.specs.Formed.{machine-at}
 use Rattle.flat.specs.declared.Flat.{Flat}
 use Rattle.keyboard.specs.Keyboard.{words-of, no-machine-number, step-numbers, asked-numbers, distance-numbers}
-use Rattle.keyboard.specs.DistanceNumbers.{tick-at}
+use Rattle.keyboard.specs.DistanceNumbers.{tick-at, DistanceNumbers}
 use Rattle.row.specs.Row.{most-keyboards, RowAnswer, step-at, asking-at}
 use Rattle.row.specs.RowFacts.{NoKeyboard}
 use Rattle.keyboards.specs.declared.RowStepAnswer.{RowStepAnswer}
@@ -56,7 +56,11 @@ pub record RowStepFacts (g : Lent) (row : List Flat) (k : ℕ) (e : Event) : Typ
 pub record RowDistanceFacts (g : Lent) (row : List Flat) (k : ℕ) (now : Stamp) : Type 0 where
   pub gives-13 : row-distance-numbers g row k now .number ≡ 13 ↔ NoKeyboard (length row) k
   pub no-distance : NoKeyboard (length row) k → row-distance-numbers g row k now ≡ not-asked
+  pub gives-12 : row-distance-numbers g row k now .number ≡ 12 ↔ ((¬ NoKeyboard (length row) k) × NotGood g)
   pub as-alone : (f : Flat) → FoundNumbers row k f → row-distance-numbers g row k now ≡ distance-numbers g f now
+  -- where it answers, the laws of the distance hold of the keyboard's own numbers
+  pub distance-laws : (f : Flat) (x : Machine) → FoundNumbers row k f → named f ≡ some x → row-distance-numbers g row k now .number ≡ 0
+      → DistanceNumbers g f x now
   -- asking is refused as a tick at that keyboard with that stamp is, 13 and 12 too
   pub same-refusals : row-distance-numbers g row k now .number ≡ row-step-numbers g row k (tick-at now) .told .number
 

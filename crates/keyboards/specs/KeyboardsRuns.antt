@@ -1,25 +1,32 @@
 -- Document 02, 10/12, for rows of numbers that a C host lends: calls one after another, and what one keyboard sees of them. The proofs are
 -- in proofs/KeyboardsRuns.antt.
-use Prim.Native.Nat.{ℕ}
+use Prim.Native.Nat.{ℕ, _<_}
+use mathlib.Core.Bool.{true}
 use mathlib.Core.List.{List, [], _∷_, _++_, map}
+use mathlib.Core.Logic.{_↔_}
 use mathlib.Core.Option.{Option, none, some}
 use mathlib.Core.Path.{_≡_}
 use lib.Dec.{eqb}
 use lib.ListN.{getElem?}
 use Rattle.rules.specs.Choice.{if_then_else_}
 use Rattle.rules.specs.Numbers.{settings-of}
-use Rattle.rules.specs.Pairs.{Lent}
-use Rattle.rules.specs.States.{fresh, opening}
+use Rattle.rules.specs.Pairs.{Lent, lent-good}
+use Rattle.rules.specs.States.{later, fresh, opening}
+use Rattle.rules.specs.Refusals.{NotAllowed, AboveLargest}
+use Rattle.rules.specs.Distance.{asking}
 use Rattle.rules.specs.ZeroDelay.{shown}
-use Rattle.rules.specs.Sequences.{state, line}
+use Rattle.rules.specs.Sequences.{state, line, accepted-events}
+use Rattle.rules.specs.MovedClock.{moved-events, Stays, AllStay, last-stamp}
 use Rattle.rules.specs.Demand3.{Demand3}
 use Rattle.rules.specs.declared.Stamp.{Stamp}
 use Rattle.rules.specs.declared.Settings.{Settings}
+use Rattle.rules.specs.declared.Event.{Event}
 use Rattle.flat.specs.Fields.{named}
 use Rattle.flat.specs.declared.Flat.{Flat}
-use Rattle.keyboard.specs.Keyboard.{open-numbers, answered-numbers}
+use Rattle.keyboard.specs.Keyboard.{open-numbers, answered-numbers, asked-numbers}
 use Rattle.keyboard.specs.KeyboardFacts.{KeyboardCalls, KeyboardRun, last-numbers, answers}
 use Rattle.keyboard.specs.HostScreen.{host-screen, host-line}
+use Rattle.keyboard.specs.MovedKeyboard.{KeyboardMoved}
 use Rattle.keyboard.specs.declared.OpenAnswer.{OpenAnswer}
 use Rattle.keyboard.specs.declared.StepAnswer.{StepAnswer}
 use Rattle.row.specs.RowRuns.{RowEvent, events-of}
@@ -107,6 +114,15 @@ pub record OpenedInRow (g : Lent) (k : ℕ) (s : Settings) (first : OpenAnswer) 
   pub line-is : host-line (answers-of k xs rs) ≡ line g s (events-of k xs)
   pub screen-is : host-screen (answers-of k xs rs) ≡ line g s (events-of k xs) ++ shown (state g s (events-of k xs) .resting)
   pub demand-3-holds : Demand3 g s (events-of k xs)
+  -- what it answers when asked, in any row in which its numbers stand as the last call left them
+  pub same-asked : (row : List Flat) (now : Stamp) → FoundNumbers row k (last-numbers (first .machine) (answers-of k xs rs))
+      → row-distance-numbers g row k now ≡ asked-numbers (asking g (state g s (events-of k xs)) now)
+  -- Stamps of different keyboards are never compared: its next event, that no earlier check refuses, is refused 5 exactly when its stamp
+  -- is before that of the last event which was accepted at this keyboard.
+  pub own-last-stamp : lent-good g ≡ true → (row : List Flat) (e : Event)
+      → FoundNumbers row k (last-numbers (first .machine) (answers-of k xs rs))
+      → row-step-numbers g row k e .told .number ≡ 5
+      ↔ ((¬ NotAllowed e) × (¬ AboveLargest e) × (e .stamp .0 < last-stamp (accepted-events g s (events-of k xs)) .0))
 
 abbrev pub Opened-in-row : Type 0
 Opened-in-row =
@@ -114,3 +130,22 @@ Opened-in-row =
     → first ≡ open-numbers (opening (settings-of (s .t) (s .j) (s .l) (s .solo))) → first .number ≡ 0
     → RowCalls g k (first .machine) xs rs
     → OpenedInRow g k s first xs rs
+
+-- 8/12 of one keyboard's clock: d is added to every stamp of its own events, and the other keyboards, whose clocks are others, hold and
+-- get what they will. At each of its calls the same numbers, the machine's stamps moved, and asked at a stamp that moves too the same
+-- distance.
+pub record MovedInRow (g : Lent) (d k j : ℕ) (s : Settings) (f : Flat) (xs ys : List RowEvent) (rs qs : List RowNumbers) : Type 0 where
+  pub own-moved : KeyboardMoved g d s (events-of k xs) (answers-of k xs rs) (answers-of j ys qs)
+      (last-numbers f (answers-of k xs rs)) (last-numbers f (answers-of j ys qs))
+  pub same-distance : (row other : List Flat) (now : Stamp) → Stays d now → FoundNumbers row k (last-numbers f (answers-of k xs rs))
+      → FoundNumbers other j (last-numbers f (answers-of j ys qs))
+      → row-distance-numbers g other j (later now d) ≡ row-distance-numbers g row k now
+
+-- Two hosts that opened with the same settings, keyboard k of the one's row and keyboard j of the other's.
+abbrev pub Moved-in-row : Type 0
+Moved-in-row =
+    (g : Lent) (d k j : ℕ) (s : Settings) (first : OpenAnswer) (xs ys : List RowEvent) (rs qs : List RowNumbers)
+    → first ≡ open-numbers (opening (settings-of (s .t) (s .j) (s .l) (s .solo))) → first .number ≡ 0
+    → RowCalls g k (first .machine) xs rs → RowCalls g j (first .machine) ys qs
+    → events-of j ys ≡ moved-events d (events-of k xs) → AllStay d (events-of k xs)
+    → MovedInRow g d k j s (first .machine) xs ys rs qs

@@ -1,6 +1,6 @@
-// Runs the keystrokes of document 01 that are not among the proved ones, and some with two letters as a chord (9/12), and prints what
-// the engine answers: the number, the items that are committed, what is sent, and how far the next deadline lies from the event's
-// stamp. A backspace is written `<-`, a mark `<L>` or `<R>`, an empty face `-`.
+// Runs the keystrokes of document 01 that are not among the proved ones, some with two letters as a chord (9/12) and some at a row of
+// keyboards (10/12), and prints what the engine answers: the number, the items that are committed, what is sent, and (but for the row)
+// how far the next deadline lies from the event's stamp. A backspace is written `<-`, a mark `<L>` or `<R>`, an empty face `-`.
 use engine::Asked;
 use engine::Items;
 use engine::Sendings;
@@ -137,6 +137,22 @@ fn ask(machine: Machine, stamp: u64) {
     ask_lent(&none, Times { ts: 50, n: 1 }, machine, stamp);
 }
 
+// An event and what it gave back: the number, the items and what is sent.
+fn say_told(kind: u8, key: u8, stamp: u64, number: u8, items: Items, sent: Sendings) {
+    say(b" kind ");
+    say_number(kind as u64);
+    say(b" key ");
+    say_number(key as u64);
+    say(b" @");
+    say_number(stamp);
+    say(b": ");
+    say_number(number as u64);
+    say(b", commits");
+    say_items(items);
+    say(b", sends");
+    say_sendings(sent);
+}
+
 // One event, with what it gave back on a line; the machine after it.
 fn event_lent(
     list: &[u32],
@@ -159,18 +175,8 @@ fn event_lent(
     let items = answer.items;
     let sent = answer.sendings;
     let after = answer.machine;
-    say(b"  kind ");
-    say_number(kind as u64);
-    say(b" key ");
-    say_number(key as u64);
-    say(b" @");
-    say_number(stamp);
-    say(b": ");
-    say_number(answer.number as u64);
-    say(b", commits");
-    say_items(items);
-    say(b", sends");
-    say_sendings(sent);
+    say(b" ");
+    say_told(kind, key, stamp, answer.number, items, sent);
     say(b", next ");
     say_distance(list, times, after, Stamp(stamp));
     say(b"\n");
@@ -360,6 +366,48 @@ fn lent_refused() {
     event(m, 6, 0, 50);
 }
 
+// One event at a keyboard of a row, with what it gave back on a line; the row after it.
+fn event_at(row: [Machine; 16], board: usize, kind: u8, key: u8, stamp: u64) -> [Machine; 16] {
+    let none = [];
+    let among = among::step_among(
+        row,
+        &none,
+        Times { ts: 50, n: 1 },
+        board,
+        Event {
+            kind: kind,
+            key: Key(key),
+            stamp: Stamp(stamp),
+        },
+    );
+    let told = among.told;
+    let items = told.items;
+    let sent = told.sendings;
+    let after = among.row;
+    say(b"  keyboard ");
+    say_number(board as u64);
+    say(b",");
+    say_told(kind, key, stamp, told.number, items, sent);
+    say(b"\n");
+    after
+}
+
+// A row of sixteen (10/12): typed at two keyboards, the clock of one far behind the other's, and at the last one; there is no keyboard 16,
+// and 13 comes before 3.
+fn row_of_keyboards() {
+    let m = open(100, 50, 50, 0);
+    let row = [m; 16];
+    let row = event_at(row, 0, 1, 21, 1000);
+    let row = event_at(row, 1, 1, 24, 5);
+    let row = event_at(row, 16, 1, 21, 1000);
+    let row = event_at(row, 16, 1, 31, 1000);
+    let row = event_at(row, 1, 1, 21, 4);
+    let row = event_at(row, 15, 1, 21, 0);
+    let row = event_at(row, 0, 3, 1, 1030);
+    let row = event_at(row, 0, 2, 21, 1060);
+    event_at(row, 1, 6, 0, 105);
+}
+
 fn main() {
     say(
         b"Kinds: 1 character down, 2 up, 3 thumb down, 4 up, 5 function, 6 tick. Thumbs: 0 left, 1 right.\n",
@@ -373,4 +421,5 @@ fn main() {
     seventh_key();
     two_letters();
     lent_refused();
+    row_of_keyboards();
 }
