@@ -33,3 +33,10 @@ module _ (at : ℕ) (new run : List ℕ) where
   not-put n t e f h =
       let g = leb-false (at + n) (length run) (sym f ∙ h) in
       record { fits = λ k. absurd (omega (arith, g)); full = λ _. (refl, refl) }
+
+-- the place that is answered is not far
+pub put-few : (at m : ℕ) (new run : List ℕ) (r : ℕ) (after : List ℕ) → length new ≤ m → Puts at new run r after → r ≤ at + m
+put-few at m new run r after h p =
+    either (leb (at + length new) (length run))
+    (λ e. omega (arith, p .fits (leb-true (at + length new) (length run) e) .behind))
+    (λ e. omega (arith, p .full (leb-false (at + length new) (length run) e) .0))
