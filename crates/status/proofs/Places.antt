@@ -50,7 +50,8 @@ pub decimal-short : (n : ℕ) → length (decimal n) ≤ 20
 unfolding decimal
 decimal-short n = rw (length-digits 10 (places 19 n) n) (places-few 19 n)
 
-pub decimal-digits : (n k : ℕ) (bytes : List ℕ) → n < 100_000_000_000_000_000_000 → Fewest 10 1 n k → bytes ≡ digits 10 k n → bytes ≡ decimal n
+pub decimal-digits : (n k : ℕ) (bytes : List ℕ)
+    → n < 100_000_000_000_000_000_000 → Fewest 10 1 n k → bytes ≡ digits 10 k n → bytes ≡ decimal n
 unfolding decimal
 decimal-digits n k bytes h f e = e ∙ ap (λ (j : ℕ). digits 10 j n) (fewest 19 n k h f)
 

@@ -19,8 +19,10 @@ returns-2 c =
     let room = told .before .before .before .before .pre in
     let few = told .put-status .ensures .1 in
     let first = status-stored _ _ _ _ _ _ _ (omega (arith, room)) (told .put-status .ensures .0) in
-    let second = c .before .before .put-bytes .ensures .fits (omega (arith, room, told .put-status .kept .0, few)) in
-    (refusal-stored _ _ _ _ _ _ _ _ (told .before .before .if1 .left) (omega (arith, room)) first second, omega (arith, few, second .behind))
+    let second = c .before .before .put-bytes .ensures .fits (omega (arith, room, told .put-status .kept .0, few)) in (
+      refusal-stored _ _ _ _ _ _ _ _ (told .before .before .if1 .left) (omega (arith, room)) first second,
+      omega (arith, few, second .behind),
+    )
 
 pub put-refusal-spec : {M : Type 1} → statement M
 put-refusal-spec =

@@ -11,7 +11,10 @@ put-label-requires : tie.Need-put-label-requires
 put-label-requires c κs = omega (arith, c .before .before .pre)
 
 same-length : tie.Need-same-length
-same-length c = c .before .before .put-bytes .kept .0 ∙ c .before .before .before .before .before .before .before .put-status .kept .0 ∙ c .before .before .before .before .before .before .before .before .before .before .before .put-label .kept .0
+same-length c =
+    let told = c .before .before .before .before .before .before .before in
+    let label = told .before .before .before .before in
+    c .before .before .put-bytes .kept .0 ∙ told .put-status .kept .0 ∙ label .put-label .kept .0
 
 returns : tie.Need-returns
 returns c =
@@ -22,8 +25,10 @@ returns c =
     let long = label .put-label .kept .0 in
     let few2 = told .put-status .ensures .1 in
     let second = status-stored _ _ _ _ _ _ _ (omega (arith, room, long, few)) (told .put-status .ensures .0) in
-    let third = c .before .before .put-bytes .ensures .fits (omega (arith, room, long, few, told .put-status .kept .0, few2)) in
-    (second-stored _ _ _ _ _ _ _ _ _ _ _ _ (omega (arith, room)) (label .put-label .ensures .0) second third, omega (arith, few, few2, third .behind))
+    let third = c .before .before .put-bytes .ensures .fits (omega (arith, room, long, few, told .put-status .kept .0, few2)) in (
+      second-stored _ _ _ _ _ _ _ _ _ _ _ _ (omega (arith, room)) (label .put-label .ensures .0) second third,
+      omega (arith, few, few2, third .behind),
+    )
 
 pub put-second-spec : {M : Type 1} → statement M
 put-second-spec =

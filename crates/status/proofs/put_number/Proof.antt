@@ -14,7 +14,8 @@ returns : tie.Need-returns
 returns c =
     let d = c .before .before .before .before .before in
     let o = d .before .before .before in
-    put-decimal _ _ _ _ _ _ _ (small _ (o .good .1 .1 .0 .1)) (d .decimal .ensures .1 .0) (d .decimal .ensures .1 .1) (c .before .before .put-bytes .ensures)
+    put-decimal _ _ _ _ _ _ _ (small _ (o .good .1 .1 .0 .1)) (d .decimal .ensures .1 .0) (d .decimal .ensures .1 .1)
+    (c .before .before .put-bytes .ensures)
 
 pub put-number-spec : {M : Type 1} → statement M
 put-number-spec =

@@ -7,7 +7,9 @@ use Rattle.status.proofs.put_status.Statement.{statement}
 use Rattle.status.proofs.put_status.Tie as tie
 
 returns : tie.Need-returns
-returns c = put-spelt _ _ _ _ _ _ _ _ _ _ (c .before .before .before .before .before .before .spell .ensures .0) (c .before .before .put-bytes .ensures)
+returns c =
+    put-spelt _ _ _ _ _ _ _ _ _ _ (c .before .before .before .before .before .before .spell .ensures .0)
+    (c .before .before .put-bytes .ensures)
 
 pub put-status-spec : {M : Type 1} → statement M
 put-status-spec =

@@ -16,10 +16,10 @@ returns c =
     let number = c .before .before .put-number in
     let front = c .before .before .before .before .before .before in
     let room = front .before .before .before .before .before .pre in
-    let first-stored = front .put-bytes .ensures .fits (omega (arith, room)) in
-    let number-stored-there = number-stored _ _ _ _ _ (omega (arith, room, front .put-bytes .kept .0, first-stored .behind)) (number .ensures .0) in (
-      waiting-status _ _ _ _ _ _ _ _ (front .before .before .before .if1 .taken) first-stored number-stored-there,
-      omega (arith, first-stored .behind, number .ensures .1),
+    let one = front .put-bytes .ensures .fits (omega (arith, room)) in
+    let two = number-stored _ _ _ _ _ (omega (arith, room, front .put-bytes .kept .0, one .behind)) (number .ensures .0) in (
+      waiting-status _ _ _ _ _ _ _ _ (front .before .before .before .if1 .taken) one two,
+      omega (arith, one .behind, number .ensures .1),
     )
 
 same-length-2 : tie.Need-same-length-2
