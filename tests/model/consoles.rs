@@ -241,7 +241,7 @@ pub fn every_console<E>(mut visit: impl FnMut(&[u8]) -> Result<(), E>) -> Result
 // ---- Long logs ----
 
 /// Logs around the end of the program's buffer: one that just fills it, one cut there, one
-/// that is a byte longer, and one that is much longer.
+/// that is a byte longer, one that is much longer, and one of many words.
 pub fn long_consoles(random: &mut Random) -> Vec<Vec<u8>> {
     // Seven settings and then events fill the buffer to its last byte.
     let settings = 7 * (HEADER + 1 + 8);
@@ -258,7 +258,17 @@ pub fn long_consoles(random: &mut Random) -> Vec<Vec<u8>> {
     let mut cut = full.clone();
     cut[CONSOLE_BUFFER - KEYBOARD_EVENT_LENGTH + 2] += 1;
     let much = [&full[..], &full].concat();
-    vec![full[..CONSOLE_BUFFER - 1].to_vec(), full, longer, cut, much]
+    vec![full[..CONSOLE_BUFFER - 1].to_vec(), full, longer, cut, much, marks()]
+}
+
+/// The thumbs by turns, with solo: each event but the first gives a mark, and the log fills
+/// the buffer as far as whole records do.
+fn marks() -> Vec<u8> {
+    let settings = keyboard_record(15, &settings_record(100, 50, 50, 1));
+    let events = (CONSOLE_BUFFER - settings.len()) / KEYBOARD_EVENT_LENGTH;
+    let presses = (0..events as u64).map(|stamp| Event { kind: 3, key: stamp as u8 % 2, stamp });
+    let records = presses.flat_map(|press| keyboard_record(15, &event_record(press)));
+    settings.iter().copied().chain(records).collect()
 }
 
 /// The records of an undamaged log of 01.

@@ -1,3 +1,4 @@
 pub mod Picking
 pub mod Totals
 pub mod Sheets
+pub mod ShownFacts

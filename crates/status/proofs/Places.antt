@@ -9,6 +9,8 @@ use lib.Dec.{ltb}
 use lib.ListN.{length, length-append}
 use Rattle.rules.proofs.Choices.{both-ways}
 use Rattle.runs.specs.Filled.{Stored}
+use Rattle.text.specs.Puts.{Puts}
+use Rattle.text.proofs.Putting.{put-few}
 use Rattle.io.specs.Digits.{digits, Fewest}
 use Rattle.status.specs.Decimal.{places, decimal}
 
@@ -48,18 +50,20 @@ pub decimal-short : (n : ℕ) → length (decimal n) ≤ 20
 unfolding decimal
 decimal-short n = rw (length-digits 10 (places 19 n) n) (places-few 19 n)
 
-pub decimal-digits : (n k : ℕ) (bytes : List ℕ) → n < 100_000_000_000_000_000_000 → Fewest 10 1 n k → bytes ≡ digits 10 k n → bytes ≡ decimal n
+pub decimal-digits : (n k : ℕ) (bytes : List ℕ)
+    → n < 100_000_000_000_000_000_000 → Fewest 10 1 n k → bytes ≡ digits 10 k n → bytes ≡ decimal n
 unfolding decimal
 decimal-digits n k bytes h f e = e ∙ ap (λ (j : ℕ). digits 10 j n) (fewest 19 n k h f)
 
--- the same of what `put_bytes` stores
-pub stored-decimal : (n k at : ℕ) (bytes run : List ℕ) (r : ℕ) (after : List ℕ)
-    → n < 100_000_000_000_000_000_000 → Fewest 10 1 n k → bytes ≡ digits 10 k n → Stored at bytes run r after
-    → Stored at (decimal n) run r after × (r ≤ at + 20)
-stored-decimal n k at bytes run r after h f e s =
-    let t : Stored at (decimal n) run r after = rw (← decimal-digits n k bytes h f e) s in
-    (t, omega (arith, t .behind, decimal-short n))
+-- the same of what `put_bytes` puts
+pub put-decimal : (n k at : ℕ) (bytes run : List ℕ) (r : ℕ) (after : List ℕ)
+    → n < 100_000_000_000_000_000_000 → Fewest 10 1 n k → bytes ≡ digits 10 k n → Puts at bytes run r after
+    → Puts at (decimal n) run r after × (r ≤ at + 20)
+put-decimal n k at bytes run r after h f e p =
+    let q : Puts at (decimal n) run r after = rw (← decimal-digits n k bytes h f e) p in
+    (q, put-few at 20 (decimal n) run r after (decimal-short n) q)
 
-pub decimal-fits : (n k at room : ℕ) (bytes : List ℕ)
-    → n < 100_000_000_000_000_000_000 → Fewest 10 1 n k → bytes ≡ digits 10 k n → at + 20 ≤ room → at + length bytes ≤ room
-decimal-fits n k at room bytes h f e fits = rw (decimal-digits n k bytes h f e) (omega (arith, decimal-short n))
+-- 20 bytes are room for every number
+pub number-stored : (n at : ℕ) (run : List ℕ) (r : ℕ) (after : List ℕ)
+    → at + 20 ≤ length run → Puts at (decimal n) run r after → Stored at (decimal n) run r after
+number-stored n at run r after h p = p .fits (omega (arith, decimal-short n))

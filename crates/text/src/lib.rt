@@ -3,9 +3,11 @@
 ghost use Prim.Native.Nat.{_+_, _≤_};
 ghost use mathlib.Core.Path.{_≡_};
 ghost use mathlib.Core.List.{[], _∷_};
+ghost use lib.Dec.{leb};
 ghost use lib.ListN.{length};
 ghost use Rattle.text.specs.Utf8.{utf8};
 ghost use Rattle.text.specs.Text.{sign, text, Encodes};
+ghost use Rattle.text.specs.Puts.{Puts};
 ghost use Rattle.runs.specs.Filled.{Stored};
 
 pub enum Encoded {
@@ -98,7 +100,7 @@ fn put_utf8(out: &mut [u8], at: usize, w: u16) -> usize
 }
 
 // A word's text at a place where it fits.
-pub fn put(out: &mut [u8], at: usize, w: u16) -> usize
+fn put_sign(out: &mut [u8], at: usize, w: u16) -> usize
     requires { ⌜ at + length (sign w) ≤ length (now out) ⌝ }
     ensures { λ r. ⌜ Stored at (sign w) (now (out .entry)) r (now (out .exit)) ⌝ }
 {
@@ -109,6 +111,26 @@ pub fn put(out: &mut [u8], at: usize, w: u16) -> usize
         return put_three(out, at, b'<', b'R', b'>');
     }
     put_utf8(out, at, w)
+}
+
+// Whether so many bytes fit at a place of a run that has room for so many in all.
+pub fn has_room(room: usize, at: usize, count: usize) -> bool
+    ensures { λ r. ⌜ r ≡ leb (at + count) room ⌝ }
+{
+    if room < at {
+        return false;
+    }
+    count <= room - at
+}
+
+// A word's text at a place; answers the place behind it. Where it does not fit, nothing is written, and the answer is the place itself.
+pub fn put(out: &mut [u8], at: usize, w: u16) -> usize
+    ensures { λ r. ⌜ Puts at (sign w) (now (out .entry)) r (now (out .exit)) ⌝ }
+{
+    if has_room(out.len(), at, width(w)) {
+        return put_sign(out, at, w);
+    }
+    at
 }
 
 // The text of words at the front of a run, or nothing where it does not fit.
@@ -122,7 +144,7 @@ pub fn encode(words: &[u16], out: &mut [u8]) -> Encoded
     let mut at = 0;
     let mut i = 0;
     while i < words.len() {
-        at = put(out, at, words[i]);
+        at = put_sign(out, at, words[i]);
         i += 1;
     }
     Encoded::Bytes(at)

@@ -13,8 +13,8 @@ pub put-board-spec : {M : Type 1} → statement M
 put-board-spec =
     tie.close
     (tie.spec
-    (λ c κs. c .before .before .before .pre .0)
-    (λ c κs. c .before .before .before .before .pre .0)
+    (λ c κs. search needs)
+    (λ c κs. search needs)
     put-stage-requires
     (λ c. c .before .before .put-stage .kept .0)
     returns)

@@ -1,4 +1,4 @@
--- `sheet::put_first` meets its contract.
+-- `sheet::put_first` meets its contract: `label` and `words` are the places behind them.
 use borrow.Author.Needs.{needs}
 use native.Mathlib.Omega.{arith}
 use mathlib.Core.Path.{_∙_}
@@ -10,16 +10,29 @@ put-label-requires : tie.Need-put-label-requires
 put-label-requires c κs = omega (arith, c .before .before .before .before .pre .1)
 
 put-words-requires : tie.Need-put-words-requires
-put-words-requires c κs = (c .before .before .before .before .before .before .before .before .pre .0, omega (arith, c .before .before .before .put-label .kept .0, c .before .before .before .put-label .ensures .1, c .before .before .before .before .before .before .before .before .pre .1))
-
-put-bytes-requires : tie.Need-put-bytes-requires
-put-bytes-requires c κs = omega (arith, c .before .before .before .before .put-words .kept .0, c .before .before .before .before .put-words .ensures .behind, c .before .before .before .before .before .before .before .before .put-label .kept .0, c .before .before .before .before .before .before .before .before .put-label .ensures .1, c .before .before .before .before .before .before .before .before .before .before .before .before .before .pre .1)
+put-words-requires c κs =
+    let label = c .before .before .before in
+    let pre = label .before .before .before .before .before .pre in
+    (pre .0, omega (arith, label .put-label .kept .0, label .put-label .ensures .1, pre .1))
 
 same-length : tie.Need-same-length
-same-length c = c .before .before .put-bytes .kept .0 ∙ c .before .before .before .before .before .before .before .put-words .kept .0 ∙ c .before .before .before .before .before .before .before .before .before .before .before .put-label .kept .0
+same-length c =
+    let words = c .before .before .before .before .before .before .before in
+    let label = words .before .before .before .before in
+    c .before .before .put-bytes .kept .0 ∙ words .put-words .kept .0 ∙ label .put-label .kept .0
 
 returns : tie.Need-returns
-returns c = (first-stored _ _ _ _ _ _ _ _ _ _ (omega (arith, c .before .before .before .before .before .before .before .before .before .before .before .before .before .before .before .before .pre .1)) (c .before .before .before .before .before .before .before .before .before .before .before .put-label .ensures .0) (c .before .before .before .before .before .before .before .put-words .ensures) (c .before .before .put-bytes .ensures), omega (arith, c .before .before .before .before .before .before .before .before .before .before .before .put-label .ensures .1, c .before .before .before .before .before .before .before .put-words .ensures .behind, c .before .before .put-bytes .ensures .behind))
+returns c =
+    let words = c .before .before .before .before .before .before .before in
+    let label = words .before .before .before .before in
+    let room = label .before .before .before .before .before .pre .1 in
+    let few = label .put-label .ensures .1 in
+    let second = words .put-words .ensures in
+    let third = c .before .before .put-bytes .ensures .fits
+    (omega (arith, room, label .put-label .kept .0, few, words .put-words .kept .0, second .behind)) in (
+      first-stored _ _ _ _ _ _ _ _ _ _ (omega (arith, room)) (label .put-label .ensures .0) second third,
+      omega (arith, few, second .behind, third .behind),
+    )
 
 pub put-first-spec : {M : Type 1} → statement M
 put-first-spec =
@@ -28,6 +41,6 @@ put-first-spec =
     put-label-requires
     put-words-requires
     (λ c. search needs)
-    put-bytes-requires
+    (λ c κs. search needs)
     same-length
     returns)

@@ -1,29 +1,30 @@
--- `sheet::put_label` meets its contract.
+-- `sheet::put_label` meets its contract: `number` is the place behind the number.
 use borrow.Author.Needs.{needs}
 use native.Mathlib.Omega.{arith}
 use mathlib.Core.Path.{_∙_}
+use Rattle.status.proofs.Places.{number-stored}
 use Rattle.sheet.proofs.Sheets.{label-stored}
 use Rattle.sheet.proofs.put_label.Statement.{statement}
 use Rattle.sheet.proofs.put_label.Tie as tie
-
-put-number-requires : tie.Need-put-number-requires
-put-number-requires c κs = omega (arith, c .before .before .pre)
-
-put-bytes-requires : tie.Need-put-bytes-requires
-put-bytes-requires c κs = omega (arith, c .before .before .before .before .put-number .kept .0, c .before .before .before .before .put-number .ensures .1, c .before .before .before .before .before .before .before .pre)
 
 same-length : tie.Need-same-length
 same-length c = c .before .before .put-bytes .kept .0 ∙ c .before .before .before .before .before .before .before .put-number .kept .0
 
 returns : tie.Need-returns
-returns c = (label-stored _ _ _ _ _ _ _ (c .before .before .before .before .before .before .before .before .before .before .pre) (c .before .before .before .before .before .before .before .put-number .ensures .0) (c .before .before .put-bytes .ensures), omega (arith, c .before .before .before .before .before .before .before .put-number .ensures .1, c .before .before .put-bytes .ensures .behind))
+returns c =
+    let number = c .before .before .before .before .before .before .before in
+    let room = number .before .before .before .pre in
+    let first = number-stored _ _ _ _ _ (omega (arith, room)) (number .put-number .ensures .0) in
+    let few = number .put-number .ensures .1 in
+    let second = c .before .before .put-bytes .ensures .fits (omega (arith, room, number .put-number .kept .0, few)) in
+    (label-stored _ _ _ _ _ _ _ room first second, omega (arith, few, second .behind))
 
 pub put-label-spec : {M : Type 1} → statement M
 put-label-spec =
     tie.close
     (tie.spec
-    put-number-requires
+    (λ c κs. search needs)
     (λ c. search needs)
-    put-bytes-requires
+    (λ c κs. search needs)
     same-length
     returns)

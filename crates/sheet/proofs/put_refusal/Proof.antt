@@ -1,7 +1,8 @@
--- `sheet::put_refusal` meets its contract.
+-- `sheet::put_refusal` meets its contract: `told` is the place behind the status.
 use borrow.Author.Needs.{needs}
 use native.Mathlib.Omega.{arith}
 use mathlib.Core.Path.{_∙_}
+use Rattle.status.proofs.Statuses.{status-stored}
 use Rattle.sheet.proofs.Sheets.{no-refusal, refusal-stored}
 use Rattle.sheet.proofs.put_refusal.Statement.{statement}
 use Rattle.sheet.proofs.put_refusal.Tie as tie
@@ -9,25 +10,27 @@ use Rattle.sheet.proofs.put_refusal.Tie as tie
 returns : tie.Need-returns
 returns c = (no-refusal _ _ _ _ (c .if1 .taken), omega arith)
 
-put-status-requires : tie.Need-put-status-requires
-put-status-requires c κs = omega (arith, c .before .before .before .pre)
-
-put-bytes-requires : tie.Need-put-bytes-requires
-put-bytes-requires c κs = omega (arith, c .before .before .before .before .put-status .kept .0, c .before .before .before .before .put-status .ensures .1, c .before .before .before .before .before .before .before .before .pre)
-
 same-length : tie.Need-same-length
 same-length c = c .before .before .put-bytes .kept .0 ∙ c .before .before .before .before .before .before .before .put-status .kept .0
 
 returns-2 : tie.Need-returns-2
-returns-2 c = (refusal-stored _ _ _ _ _ _ _ _ (c .before .before .before .before .before .before .before .before .before .if1 .left) (omega (arith, c .before .before .before .before .before .before .before .before .before .before .before .pre)) (c .before .before .before .before .before .before .before .put-status .ensures .0) (c .before .before .put-bytes .ensures), omega (arith, c .before .before .before .before .before .before .before .put-status .ensures .1, c .before .before .put-bytes .ensures .behind))
+returns-2 c =
+    let told = c .before .before .before .before .before .before .before in
+    let room = told .before .before .before .before .pre in
+    let few = told .put-status .ensures .1 in
+    let first = status-stored _ _ _ _ _ _ _ (omega (arith, room)) (told .put-status .ensures .0) in
+    let second = c .before .before .put-bytes .ensures .fits (omega (arith, room, told .put-status .kept .0, few)) in (
+      refusal-stored _ _ _ _ _ _ _ _ (told .before .before .if1 .left) (omega (arith, room)) first second,
+      omega (arith, few, second .behind),
+    )
 
 pub put-refusal-spec : {M : Type 1} → statement M
 put-refusal-spec =
     tie.close
     (tie.spec
     returns
-    put-status-requires
+    (λ c κs. search needs)
     (λ c. search needs)
-    put-bytes-requires
+    (λ c κs. search needs)
     same-length
     returns-2)

@@ -1,7 +1,8 @@
--- `sheet::put_second` meets its contract.
+-- `sheet::put_second` meets its contract: `label` and `told` are the places behind the label and behind the status.
 use borrow.Author.Needs.{needs}
 use native.Mathlib.Omega.{arith}
 use mathlib.Core.Path.{_∙_}
+use Rattle.status.proofs.Statuses.{status-stored}
 use Rattle.sheet.proofs.Sheets.{second-stored}
 use Rattle.sheet.proofs.put_second.Statement.{statement}
 use Rattle.sheet.proofs.put_second.Tie as tie
@@ -9,25 +10,33 @@ use Rattle.sheet.proofs.put_second.Tie as tie
 put-label-requires : tie.Need-put-label-requires
 put-label-requires c κs = omega (arith, c .before .before .pre)
 
-put-status-requires : tie.Need-put-status-requires
-put-status-requires c κs = omega (arith, c .before .before .before .put-label .kept .0, c .before .before .before .put-label .ensures .1, c .before .before .before .before .before .before .pre)
-
-put-bytes-requires : tie.Need-put-bytes-requires
-put-bytes-requires c κs = omega (arith, c .before .before .before .before .put-status .kept .0, c .before .before .before .before .put-status .ensures .1, c .before .before .before .before .before .before .before .before .put-label .kept .0, c .before .before .before .before .before .before .before .before .put-label .ensures .1, c .before .before .before .before .before .before .before .before .before .before .before .pre)
-
 same-length : tie.Need-same-length
-same-length c = c .before .before .put-bytes .kept .0 ∙ c .before .before .before .before .before .before .before .put-status .kept .0 ∙ c .before .before .before .before .before .before .before .before .before .before .before .put-label .kept .0
+same-length c =
+    let told = c .before .before .before .before .before .before .before in
+    let label = told .before .before .before .before in
+    c .before .before .put-bytes .kept .0 ∙ told .put-status .kept .0 ∙ label .put-label .kept .0
 
 returns : tie.Need-returns
-returns c = (second-stored _ _ _ _ _ _ _ _ _ _ _ _ (omega (arith, c .before .before .before .before .before .before .before .before .before .before .before .before .before .before .pre)) (c .before .before .before .before .before .before .before .before .before .before .before .put-label .ensures .0) (c .before .before .before .before .before .before .before .put-status .ensures .0) (c .before .before .put-bytes .ensures), omega (arith, c .before .before .before .before .before .before .before .before .before .before .before .put-label .ensures .1, c .before .before .before .before .before .before .before .put-status .ensures .1, c .before .before .put-bytes .ensures .behind))
+returns c =
+    let told = c .before .before .before .before .before .before .before in
+    let label = told .before .before .before .before in
+    let room = label .before .before .before .pre in
+    let few = label .put-label .ensures .1 in
+    let long = label .put-label .kept .0 in
+    let few2 = told .put-status .ensures .1 in
+    let second = status-stored _ _ _ _ _ _ _ (omega (arith, room, long, few)) (told .put-status .ensures .0) in
+    let third = c .before .before .put-bytes .ensures .fits (omega (arith, room, long, few, told .put-status .kept .0, few2)) in (
+      second-stored _ _ _ _ _ _ _ _ _ _ _ _ (omega (arith, room)) (label .put-label .ensures .0) second third,
+      omega (arith, few, few2, third .behind),
+    )
 
 pub put-second-spec : {M : Type 1} → statement M
 put-second-spec =
     tie.close
     (tie.spec
     put-label-requires
-    put-status-requires
+    (λ c κs. search needs)
     (λ c. search needs)
-    put-bytes-requires
+    (λ c κs. search needs)
     same-length
     returns)

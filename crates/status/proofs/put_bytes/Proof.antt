@@ -1,31 +1,24 @@
--- `status::put_bytes` meets its contract: the bytes passed are copied (`Copying`).
+-- `status::put_bytes` meets its contract.
 use borrow.Author.Needs.{needs}
-use Prim.Native.Nat.{_-_}
-use native.Mathlib.Omega.{arith}
-use lib.ListN.{length}
-use Rattle.status.proofs.Copying.{Copying, begun, same-length, copied, all-copied}
+use mathlib.Core.Path.{refl}
+use Rattle.text.proofs.Putting.{does-fit, put-there, not-put}
 use Rattle.status.proofs.put_bytes.Statement.{statement}
 use Rattle.status.proofs.put_bytes.Tie as tie
 
-abbrev Inv-loop : tie.InvT-loop
-Inv-loop out₀ at bytes i₀ out i = Copying out₀ bytes at i out
+copy-requires : tie.Need-copy-requires
+copy-requires c κs = does-fit _ _ _ _ _ refl (c .before .before .has-room .ensures) (c .before .if1 .taken)
 
-abbrev μ-loop : tie.MeasureT-loop
-μ-loop out₀ at bytes i₀ out i = length bytes - i
+returns : tie.Need-returns
+returns c =
+    let test = c .before .before .before .before in
+    put-there _ _ _ _ _ (does-fit _ _ _ _ _ refl (test .before .has-room .ensures) (test .if1 .taken)) (c .before .before .copy .ensures)
 
 pub put-bytes-spec : {M : Type 1} → statement M
 put-bytes-spec =
     tie.close
     (tie.spec
-    Inv-loop
-    μ-loop
-    (λ c. begun _ _ _)
+    (λ c κs. search needs)
+    copy-requires
     (λ c. search needs)
-    (λ c. search needs)
-    (λ c. omega (arith, same-length _ _ _ (c .before .before .before .pre) _ _ (c .before .before .loop .inv)))
-    (λ c. search needs)
-    (λ c. search needs)
-    (λ c. copied _ _ _ (c .before .before .before .pre) _ _ (c .before .before .loop .inv) (c .before .loop-test .taken))
-    (λ c. search needs)
-    (λ c. same-length _ _ _ (c .before .before .pre) _ _ (c .before .loop .inv))
-    (λ c. all-copied _ _ _ (c .before .before .pre) _ _ (c .before .loop .inv) (c .loop-test .left)))
+    returns
+    (λ c. not-put _ _ _ _ _ refl (c .before .has-room .ensures) (c .if1 .left)))

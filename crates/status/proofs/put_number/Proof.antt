@@ -2,7 +2,7 @@
 use borrow.Author.Needs.{needs}
 use Prim.Native.Nat.{ℕ, _^_, _<_}
 use native.Mathlib.Omega.{arith}
-use Rattle.status.proofs.Places.{stored-decimal, decimal-fits}
+use Rattle.status.proofs.Places.{put-decimal}
 use Rattle.status.proofs.put_number.Statement.{statement}
 use Rattle.status.proofs.put_number.Tie as tie
 
@@ -10,17 +10,12 @@ use Rattle.status.proofs.put_number.Tie as tie
 small : (n : ℕ) → n < 2 ^ 64 → n < 100_000_000_000_000_000_000
 small n h = omega arith
 
-put-bytes-requires : tie.Need-put-bytes-requires
-put-bytes-requires c κs =
-    let d = c .before .before in
-    let o = d .before .before .before in
-    decimal-fits _ _ _ _ _ (small _ (o .good .1 .1 .0 .1)) (d .decimal .ensures .1 .0) (d .decimal .ensures .1 .1) (o .pre)
-
 returns : tie.Need-returns
 returns c =
     let d = c .before .before .before .before .before in
     let o = d .before .before .before in
-    stored-decimal _ _ _ _ _ _ _ (small _ (o .good .1 .1 .0 .1)) (d .decimal .ensures .1 .0) (d .decimal .ensures .1 .1) (c .before .before .put-bytes .ensures)
+    put-decimal _ _ _ _ _ _ _ (small _ (o .good .1 .1 .0 .1)) (d .decimal .ensures .1 .0) (d .decimal .ensures .1 .1)
+    (c .before .before .put-bytes .ensures)
 
 pub put-number-spec : {M : Type 1} → statement M
 put-number-spec =
@@ -29,6 +24,6 @@ put-number-spec =
     (λ c κs. search needs)
     (λ c. search needs)
     (λ c. search needs)
-    put-bytes-requires
+    (λ c κs. search needs)
     (λ c. search needs)
     returns)
