@@ -1,7 +1,8 @@
 /*
  * Trabeculon: a proved key-timing engine for NICOLA thumb-shift keyboards. This
- * is its face for a C host: ten functions over runs and numbers. One reads a
- * log and one writes the log of a line; three drive a live keyboard: one opens
+ * is its face for a C host: eleven functions over runs and numbers. One reads a
+ * log, one gives a second opinion on it, and one writes the log of a line; three
+ * drive a live keyboard: one opens
  * a machine, one takes an event, one says how far away the next deadline is;
  * two take an event and say the distance at a keyboard of a row; and three read
  * a log that arrives in pieces. All of them are in libtrabeculon.a.
@@ -96,6 +97,7 @@ extern "C" {
 #define TRABECULON_TOO_MANY_HELD 11  /* a new key while 6 are held */
 #define TRABECULON_PAIRS_REFUSED 12  /* the list of pairs, T_s or N */
 #define TRABECULON_NO_KEYBOARD 13    /* row above 16, or number past the row */
+#define TRABECULON_HAS_PAIRS 14      /* only of a second opinion: a list of pairs */
 
 /*
  * A moment of the keyboard's own clock, in milliseconds. It has a type of its
@@ -188,6 +190,33 @@ typedef struct {
  */
 trabeculon_answer trabeculon_read_log(const uint8_t *log, size_t log_len,
                                       uint8_t *out, size_t out_len);
+
+/*
+ * A plain second opinion on a log (request 11/12), for an inspector: another
+ * engine, which keeps no waiting letter and looks forward over the log's
+ * accepted events. It takes what trabeculon_read_log takes and lends, and
+ * answers in the same form:
+ *
+ *   - if the log's list has at least one pair: number 14, offset 8, the list's
+ *     record, words and waiting 0, whatever comes behind it. A list that is
+ *     refused is refused 12 there, and a list of no pairs changes nothing;
+ *   - else, where the words don't all fit into the run: number 8, offset 0,
+ *     words and waiting 0, also where a record is refused;
+ *   - else number, waiting, words and offset of trabeculon_read_log for the
+ *     same log and run, which holds the same words.
+ *
+ * 4 * (log_len / 13 + 1) bytes at out always suffice. Every byte of out but the
+ * first 2 * words holds what it held before, an odd last byte among them. The
+ * time that it takes grows as the square of the log's length (measured,
+ * docs/INSPECTION.md).
+ *
+ * Proved: the answer and the run afterwards (Gives, second/specs/Whole.antt,
+ * over opined, inspected/specs/OfLog.antt); that it is the reader's, that room
+ * of two words for every 13 bytes suffices, and exactly when 14 and 8 are given
+ * (SameAsReader, inspected/specs/SameAsReader.antt).
+ */
+trabeculon_answer trabeculon_second_opinion(const uint8_t *log, size_t log_len,
+                                            uint8_t *out, size_t out_len);
 
 /*
  * What writing a drill answers.

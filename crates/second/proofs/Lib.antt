@@ -7,3 +7,5 @@ pub mod Deciding
 pub mod Tally
 pub mod Sizes
 pub mod Finding
+pub mod Beginning
+pub mod Giving

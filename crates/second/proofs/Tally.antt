@@ -11,13 +11,15 @@ use Rattle.rules.specs.declared.Settings.{Settings}
 use Rattle.rules.proofs.Screen.{signs-append}
 use Rattle.runs.specs.Filled.{filled, Stored}
 use Rattle.runs.proofs.Filling.{stored-both}
+use Rattle.keylog.specs.Runs.{high-first, encoded}
+use Rattle.keylog.proofs.Encoded.{encoded-append}
 use Rattle.preview.specs.Views.{listed}
 use Rattle.preview.specs.declared.Items.{Items}
 use Rattle.opinions.specs.Opinion as opinions
 use Rattle.opinions.specs.Opinion.{Told, told, tell, from}
 use Rattle.second.specs.Places.{from-place}
 use Rattle.second.specs.Views.{Places, waiting, still-set, Set-in-range, decided, Goes-on, Decides}
-use Rattle.second.specs.Telling.{told-of, words-of, Counts}
+use Rattle.second.specs.Telling.{told-of, packed, words-of, Counts}
 use Rattle.second.specs.declared.looking.Earlier.{Earlier}
 use Rattle.second.specs.declared.decisions.Set.{Set}
 use Rattle.second.specs.declared.decisions.Set.the-variants.{Free}
@@ -98,25 +100,25 @@ module _ (s : Settings) (bytes : List ℕ) (n fuel : ℕ) (h : Set) (at words : 
           few = omega (arith, c .few);
         }
 
--- what a run holds with some words stored at a place
+-- what a run holds with something stored at a place
 abbrev placed : ℕ → List ℕ → List ℕ → List ℕ
 placed at new run = take at run ++ new ++ drop (at + length new) run
 
--- Writing into a run that held `before`: so many words are written.
-pub record Writing (s : Settings) (bytes : List ℕ) (n fuel : ℕ) (h : Set) (at words : ℕ) (before run : List ℕ) : Type 0 where
-  pub whole : placed words (signs (from s fuel (still-set h) (from-place bytes n at) .items)) run ≡ filled (words-of s bytes n) before
-  pub room : words + length (signs (from s fuel (still-set h) (from-place bytes n at) .items)) ≤ length run
+-- Writing into a run that held `before`: the next word comes to a place `behind`.
+pub record Writing (s : Settings) (bytes : List ℕ) (n fuel : ℕ) (h : Set) (at behind : ℕ) (before run : List ℕ) : Type 0 where
+  pub whole : placed behind (packed (signs (from s fuel (still-set h) (from-place bytes n at) .items))) run ≡ filled (packed (words-of s bytes n)) before
+  pub room : behind + length (packed (signs (from s fuel (still-set h) (from-place bytes n at) .items))) ≤ length run
   pub same : length run ≡ length before
   pub below : at ≤ n
   pub good : Set-in-range h
 
-pub writing-starts : (s : Settings) (bytes : List ℕ) (n : ℕ) (run : List ℕ) → length (words-of s bytes n) ≤ length run
+pub writing-starts : (s : Settings) (bytes : List ℕ) (n : ℕ) (run : List ℕ) → length (packed (words-of s bytes n)) ≤ length run
     → Writing s bytes n (2 * n + 1) Free 0 0 run run
 writing-starts s bytes n run fits =
     let e : from s (2 * n + 1) opinions.free (from-place bytes n 0) ≡ told-of s bytes n =
     ap (λ k. from s k opinions.free (from-place bytes n 0)) (add-one (2 * n)) in
-    let t : signs (from s (2 * n + 1) opinions.free (from-place bytes n 0) .items) ≡ words-of s bytes n =
-    ap (λ (t : Told). signs (t .items)) e in
+    let t : packed (signs (from s (2 * n + 1) opinions.free (from-place bytes n 0) .items)) ≡ packed (words-of s bytes n) =
+    ap (λ (t : Told). packed (signs (t .items))) e in
     record {
       whole = rw zero-add (ap (λ (l : List ℕ). filled l run) t);
       room = omega (arith, ap length t);
@@ -125,46 +127,48 @@ writing-starts s bytes n run fits =
       good = tt;
     }
 
-module _ (s : Settings) (bytes : List ℕ) (n fuel : ℕ) (h : Set) (at words : ℕ) (before run : List ℕ)
-    (c : Writing s bytes n fuel h at words before run) where
-  pub writing-stops : fuel ≤ 0 → run ≡ filled (words-of s bytes n) before
+module _ (s : Settings) (bytes : List ℕ) (n fuel : ℕ) (h : Set) (at behind : ℕ) (before run : List ℕ)
+    (c : Writing s bytes n fuel h at behind before run) where
+  pub writing-stops : fuel ≤ 0 → run ≡ filled (packed (words-of s bytes n)) before
+  unfolding encoded
   writing-stops none =
       let e = no-decision s fuel (still-set h) (from-place bytes n at) none in
-      let all : placed words [] run ≡ run = rw (append-nil, add-zero) (take-append-drop words run) in
+      let all : placed behind [] run ≡ run = rw (append-nil, add-zero) (take-append-drop behind run) in
       sym all ∙ (rw e at (c .whole))
 
   module _ (r : Decision) (pos : 0 < fuel) (d : Decides (from-place bytes n) n r (opinions.decide s (still-set h) (from-place bytes n at)))
       (items : Items) where
     -- the words of the last decision have room
-    pub last-fits : (w : Earlier) → r ≡ Over items w → words + length (signs (listed items)) ≤ length run
+    pub last-fits : (w : Earlier) → r ≡ Over items w → behind + length (packed (signs (listed items))) ≤ length run
     last-fits w q = rw (told-over s (from-place bytes n) n fuel h at r pos d items w q) at (c .room)
 
-    pub writing-ends : (w : Earlier) → r ≡ Over items w → (next : ℕ) (after : List ℕ) → Stored words (signs (listed items)) run next after
-        → after ≡ filled (words-of s bytes n) before
+    pub writing-ends : (w : Earlier) → r ≡ Over items w → (next : ℕ) (after : List ℕ) → Stored behind (packed (signs (listed items))) run next after
+        → after ≡ filled (packed (words-of s bytes n)) before
     writing-ends w q next after t = t .stored ∙ (rw (told-over s (from-place bytes n) n fuel h at r pos d items w q) at (c .whole))
 
     module _ (k : Set) (i : ℕ) (q : r ≡ On items k i) where
       abbrev Left : Told
       Left = from s (fuel - 1) (still-set k) (from-place bytes n i)
 
-      split : signs (from s fuel (still-set h) (from-place bytes n at) .items) ≡ signs (listed items) ++ signs (Left .items)
+      split : packed (signs (from s fuel (still-set h) (from-place bytes n at) .items)) ≡ packed (signs (listed items)) ++ packed (signs (Left .items))
       split =
-          ap (λ (t : Told). signs (t .items)) (told-on s (from-place bytes n) n fuel h at r pos d items k i q)
-          ∙ signs-append (listed items) (Left .items)
+          ap (λ (t : Told). packed (signs (t .items))) (told-on s (from-place bytes n) n fuel h at r pos d items k i q)
+          ∙ ap packed (signs-append (listed items) (Left .items))
+          ∙ encoded-append high-first (signs (listed items)) (signs (Left .items))
 
-      both-fit : words + (length (signs (listed items)) + length (signs (Left .items))) ≤ length run
-      both-fit = omega (arith, c .room, ap length split, length-append (signs (listed items)) (signs (Left .items)))
+      both-fit : behind + (length (packed (signs (listed items))) + length (packed (signs (Left .items)))) ≤ length run
+      both-fit = omega (arith, c .room, ap length split, length-append (packed (signs (listed items))) (packed (signs (Left .items))))
 
-      pub next-fits : words + length (signs (listed items)) ≤ length run
+      pub next-fits : behind + length (packed (signs (listed items))) ≤ length run
       next-fits = omega (arith, both-fit)
 
-      pub writing-goes-on : (next : ℕ) (after : List ℕ) → Stored words (signs (listed items)) run next after → length after ≡ length run
+      pub writing-goes-on : (next : ℕ) (after : List ℕ) → Stored behind (packed (signs (listed items))) run next after → length after ≡ length run
           → Writing s bytes n (fuel - 1) k i next before after
       writing-goes-on next after t long =
           let g = goes-on s (from-place bytes n) n fuel h at r pos d items k i q in
-          let rest : List ℕ = signs (Left .items) in
+          let rest : List ℕ = packed (signs (Left .items)) in
           let last : Stored next rest after (next + length rest) (placed next rest after) = record { behind = refl; stored = refl } in
-          let both = stored-both words (signs (listed items)) rest run next after _ _ (omega (arith, both-fit)) t last in
+          let both = stored-both behind (packed (signs (listed items))) rest run next after _ _ (omega (arith, both-fit)) t last in
           record {
             whole = both .stored ∙ (rw split at (c .whole));
             room = omega (arith, both-fit, t .behind);

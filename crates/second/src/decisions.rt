@@ -169,7 +169,15 @@ fn released(s: Settings, thumb: Event, letter: Event, due: Due, seen: Seen) -> D
     }
 }
 
-fn from_released(s: Settings, events: &[u8], n: usize, thumb: Event, letter: Event, release: Event, at: usize) -> Decision
+fn from_released(
+    s: Settings,
+    events: &[u8],
+    n: usize,
+    thumb: Event,
+    letter: Event,
+    release: Event,
+    at: usize,
+) -> Decision
     requires { ⌜ Ready s (now events) n ⌝ }
     requires { ⌜ at ≤ n ⌝ }
     requires { ⌜ In-range release ⌝ }
@@ -182,7 +190,14 @@ fn from_released(s: Settings, events: &[u8], n: usize, thumb: Event, letter: Eve
 }
 
 // S4: letter, then thumb. A mark may have come before.
-fn letter_first(s: Settings, first: Before, letter: Event, thumb: Event, due: Due, seen: Seen) -> Decision
+fn letter_first(
+    s: Settings,
+    first: Before,
+    letter: Event,
+    thumb: Event,
+    due: Due,
+    seen: Seen,
+) -> Decision
     requires { ⌜ Small seen ⌝ }
     ensures { λ r. ⌜ ((from : Places) (n : ℕ) → In-range thumb → Stands-there from n seen
         → Decides from n r (opinions.after (marks first) (opinions.letter-first s letter thumb (when due) (seen-list from seen)))) ⌝ }
@@ -201,7 +216,15 @@ fn letter_first(s: Settings, first: Before, letter: Event, thumb: Event, due: Du
     }
 }
 
-fn from_letter_first(s: Settings, events: &[u8], n: usize, first: Before, letter: Event, thumb: Event, at: usize) -> Decision
+fn from_letter_first(
+    s: Settings,
+    events: &[u8],
+    n: usize,
+    first: Before,
+    letter: Event,
+    thumb: Event,
+    at: usize,
+) -> Decision
     requires { ⌜ Ready s (now events) n ⌝ }
     requires { ⌜ at ≤ n ⌝ }
     requires { ⌜ In-range thumb ⌝ }
@@ -209,12 +232,27 @@ fn from_letter_first(s: Settings, events: &[u8], n: usize, first: Before, letter
         (opinions.after (marks first) (opinions.from-letter-first s letter thumb (from-place (now (events .entry)) n at))) ⌝ }
 {
     let due = letter_first_due(s, letter, thumb);
-    let seen = ahead(events, n, at, Earlier::Press(letter), Earlier::Press(thumb), due);
+    let seen = ahead(
+        events,
+        n,
+        at,
+        Earlier::Press(letter),
+        Earlier::Press(thumb),
+        due,
+    );
     letter_first(s, first, letter, thumb, due, seen)
 }
 
 // S5: thumb, then letter.
-fn thumb_first(s: Settings, events: &[u8], n: usize, thumb: Event, letter: Event, due: Due, seen: Seen) -> Decision
+fn thumb_first(
+    s: Settings,
+    events: &[u8],
+    n: usize,
+    thumb: Event,
+    letter: Event,
+    due: Due,
+    seen: Seen,
+) -> Decision
     requires { ⌜ Ready s (now events) n ⌝ }
     requires { ⌜ Stands-there (from-place (now events) n) n seen ⌝ }
     ensures { λ r. ⌜ Decides (from-place (now (events .entry)) n) n r
@@ -234,7 +272,14 @@ fn thumb_first(s: Settings, events: &[u8], n: usize, thumb: Event, letter: Event
     }
 }
 
-fn from_thumb_first(s: Settings, events: &[u8], n: usize, thumb: Event, letter: Event, at: usize) -> Decision
+fn from_thumb_first(
+    s: Settings,
+    events: &[u8],
+    n: usize,
+    thumb: Event,
+    letter: Event,
+    at: usize,
+) -> Decision
     requires { ⌜ Ready s (now events) n ⌝ }
     requires { ⌜ at ≤ n ⌝ }
     requires { ⌜ In-range letter ⌝ }
@@ -242,12 +287,26 @@ fn from_thumb_first(s: Settings, events: &[u8], n: usize, thumb: Event, letter: 
         (opinions.from-thumb-first s thumb letter (from-place (now (events .entry)) n at)) ⌝ }
 {
     let due = thumb_first_due(s, thumb, letter);
-    let seen = ahead(events, n, at, Earlier::Press(letter), Earlier::Press(thumb), due);
+    let seen = ahead(
+        events,
+        n,
+        at,
+        Earlier::Press(letter),
+        Earlier::Press(thumb),
+        due,
+    );
     thumb_first(s, events, n, thumb, letter, due, seen)
 }
 
 // S2: a letter, and no thumb set.
-fn letter_alone(s: Settings, events: &[u8], n: usize, letter: Event, due: Due, seen: Seen) -> Decision
+fn letter_alone(
+    s: Settings,
+    events: &[u8],
+    n: usize,
+    letter: Event,
+    due: Due,
+    seen: Seen,
+) -> Decision
     requires { ⌜ Ready s (now events) n ⌝ }
     requires { ⌜ Stands-there (from-place (now events) n) n seen ⌝ }
     ensures { λ r. ⌜ Decides (from-place (now (events .entry)) n) n r

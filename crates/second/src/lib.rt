@@ -8,3 +8,6 @@ mod looking;
 mod places;
 mod refusals;
 mod telling;
+mod whole;
+
+pub use whole::opine;

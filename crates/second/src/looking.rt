@@ -74,7 +74,14 @@ fn decides(letter: Earlier, thumb: Earlier, due: Due, e: Event) -> bool
 }
 
 // The first of n events, from a place on, that is late or matters.
-pub fn ahead(events: &[u8], n: usize, from: usize, letter: Earlier, thumb: Earlier, due: Due) -> Seen
+pub fn ahead(
+    events: &[u8],
+    n: usize,
+    from: usize,
+    letter: Earlier,
+    thumb: Earlier,
+    due: Due,
+) -> Seen
     requires { ⌜ Listed (now events) n ⌝ }
     requires { ⌜ from ≤ n ⌝ }
     ensures { λ r. ⌜ Looks (from-place (now (events .entry)) n) n r

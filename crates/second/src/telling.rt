@@ -13,7 +13,7 @@ ghost use Rattle.rules.specs.ZeroDelay.{sign-unless-0, signs};
 ghost use Rattle.runs.specs.Filled.{filled, Stored};
 ghost use Rattle.preview.specs.Views.{listed};
 ghost use Rattle.second.specs.Views.{waiting, Ready};
-ghost use Rattle.second.specs.Telling.{words-of, Counts};
+ghost use Rattle.second.specs.Telling.{packed, words-of, Counts};
 
 // How many words there are, and how many characters wait.
 pub struct Total {
@@ -83,21 +83,22 @@ pub fn count(s: Settings, events: &[u8], n: usize) -> Total
     }
 }
 
-// A word at a place, 0 standing for none. Answers the place behind it.
-fn put_word(out: &mut [u16], at: usize, w: u16) -> usize
-    requires { ⌜ at + length (sign-unless-0 w) ≤ length (now out) ⌝ }
-    ensures { λ r. ⌜ Stored at (sign-unless-0 w) (now (out .entry)) r (now (out .exit)) ⌝ }
+// A word at a place, 0 standing for none: two bytes, the high one first. Answers the place behind it.
+fn put_word(out: &mut [u8], at: usize, w: u16) -> usize
+    requires { ⌜ at + length (packed (sign-unless-0 w)) ≤ length (now out) ⌝ }
+    ensures { λ r. ⌜ Stored at (packed (sign-unless-0 w)) (now (out .entry)) r (now (out .exit)) ⌝ }
 {
     if w == 0 {
         return at;
     }
-    out[at] = w;
-    at + 1
+    out[at] = (w / 256) as u8;
+    out[at + 1] = (w % 256) as u8;
+    at + 2
 }
 
-fn put_items(out: &mut [u16], at: usize, items: Items) -> usize
-    requires { ⌜ at + length (signs (listed items)) ≤ length (now out) ⌝ }
-    ensures { λ r. ⌜ Stored at (signs (listed items)) (now (out .entry)) r (now (out .exit)) ⌝ }
+fn put_items(out: &mut [u8], at: usize, items: Items) -> usize
+    requires { ⌜ at + length (packed (signs (listed items))) ≤ length (now out) ⌝ }
+    ensures { λ r. ⌜ Stored at (packed (signs (listed items))) (now (out .entry)) r (now (out .exit)) ⌝ }
 {
     match items {
         Items::None => at,
@@ -110,24 +111,24 @@ fn put_items(out: &mut [u16], at: usize, items: Items) -> usize
 }
 
 // Writes the words of n events at the front of a run that has room for them.
-pub fn write(s: Settings, events: &[u8], n: usize, out: &mut [u16])
+pub fn write(s: Settings, events: &[u8], n: usize, out: &mut [u8])
     requires { ⌜ Ready s (now events) n ⌝ }
-    requires { ⌜ length (words-of s (now events) n) ≤ length (now out) ⌝ }
-    ensures { λ _. ⌜ now (out .exit) ≡ filled (words-of s (now (events .entry)) n) (now (out .entry)) ⌝ }
+    requires { ⌜ length (packed (words-of s (now events) n)) ≤ length (now out) ⌝ }
+    ensures { λ _. ⌜ now (out .exit) ≡ filled (packed (words-of s (now (events .entry)) n)) (now (out .entry)) ⌝ }
 {
     let mut fuel = 2 * n + 1;
     let mut set = Set::Free;
     let mut at = 0;
-    let mut words = 0;
+    let mut behind = 0;
     while 0 < fuel {
         fuel -= 1;
         match decide(s, events, n, set, at) {
             Decision::Over(items, _) => {
-                put_items(out, words, items);
+                put_items(out, behind, items);
                 return;
             }
             Decision::On(items, next, i) => {
-                words = put_items(out, words, items);
+                behind = put_items(out, behind, items);
                 set = next;
                 at = i;
             }

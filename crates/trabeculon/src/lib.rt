@@ -16,6 +16,8 @@ ghost use lib.ListN.{length};
 ghost use Rattle.rules.specs.Numbers.{settings-of};
 ghost use Rattle.rules.specs.States.{opening};
 ghost use Rattle.keylog.specs.Runs.{high-first, Reads};
+ghost use Rattle.inspected.specs.OfLog.{opined};
+ghost use Rattle.second.specs.Whole.{Gives};
 ghost use Rattle.writer.specs.Writes.{Writes};
 ghost use Rattle.host.specs.Face.{told};
 ghost use Rattle.host.specs.Drills.{drilled};
@@ -29,6 +31,13 @@ pub extern "C" fn trabeculon_read_log(log: &[u8], out: &mut [u8]) -> Answer
     ensures { λ r. ⌜ Reads high-first (length (now (out .entry)) / 2) (now (log .entry)) (now (out .entry)) (told r) (now (out .exit)) ⌝ }
 {
     host::trabeculon_read_log(log, out)
+}
+
+#[no_mangle]
+pub extern "C" fn trabeculon_second_opinion(log: &[u8], out: &mut [u8]) -> Answer
+    ensures { λ r. ⌜ Gives (opined (length (now (out .entry)) / 2) (now (log .entry))) (now (out .entry)) (told r) (now (out .exit)) ⌝ }
+{
+    host::trabeculon_second_opinion(log, out)
 }
 
 #[no_mangle]

@@ -1,6 +1,7 @@
 -- `second::telling::put_word` meets its contract.
 use native.Mathlib.Omega.{arith}
 use borrow.Author.Needs.{needs}
+use lib.ListN.{length-set}
 use Rattle.second.proofs.Sizes.{none-stored, word-fits, word-stored}
 use Rattle.second.proofs.telling.put_word.Statement.{statement}
 use Rattle.second.proofs.telling.put_word.Tie as tie
@@ -10,8 +11,13 @@ put-word-spec =
     tie.close
     (tie.spec
     (λ c. none-stored _ (c .before .args .w) _ (c .if1 .taken))
-    (λ c. omega (arith, word-fits (c .before .args .at) (c .before .args .w) (c .before .args .out .now) (c .if1 .left) (c .before .pre)))
-    (λ c. omega (arith, word-fits (c .before .args .at) (c .before .args .w) (c .before .args .out .now) (c .if1 .left) (c .before .pre)))
+    (λ c. search needs)
     (λ c. omega (arith, word-fits (c .before .args .at) (c .before .args .w) (c .before .args .out .now) (c .if1 .left) (c .before .pre)))
     (λ c. search needs)
+    (λ c. omega (arith, word-fits (c .before .args .at) (c .before .args .w) (c .before .args .out .now) (c .if1 .left) (c .before .pre)))
+    (λ c.
+    simp length-set
+    (omega (arith, word-fits (c .before .args .at) (c .before .args .w) (c .before .args .out .now) (c .if1 .left) (c .before .pre))))
+    (λ c. omega (arith, word-fits (c .before .args .at) (c .before .args .w) (c .before .args .out .now) (c .if1 .left) (c .before .pre)))
+    (λ c. simp length-set)
     (λ c. word-stored (c .before .args .at) (c .before .args .w) (c .before .args .out .now) (c .if1 .left) (c .before .pre)))

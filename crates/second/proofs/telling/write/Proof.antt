@@ -1,4 +1,4 @@
--- `second::telling::write` meets its contract: with what is left to tell put behind the words so far, the run holds the whole.
+-- `second::telling::write` meets its contract: with what is left to tell put behind those so far, the run holds the whole.
 use native.Mathlib.Omega.{arith}
 use borrow.Author.Needs.{needs}
 use mathlib.Core.Path.{_∙_}
@@ -7,10 +7,10 @@ use Rattle.second.proofs.telling.write.Statement.{statement}
 use Rattle.second.proofs.telling.write.Tie as tie
 
 abbrev Inv-loop : tie.InvT-loop
-Inv-loop s events n out₀ fuel₀ set₀ at₀ words₀ out fuel set at words = Writing s events n fuel set at words out₀ out
+Inv-loop s events n out₀ fuel₀ set₀ at₀ behind₀ out fuel set at behind = Writing s events n fuel set at behind out₀ out
 
 abbrev μ-loop : tie.MeasureT-loop
-μ-loop s events n out₀ fuel₀ set₀ at₀ words₀ out fuel set at words = fuel
+μ-loop s events n out₀ fuel₀ set₀ at₀ behind₀ out fuel set at behind = fuel
 
 pub write-spec : {M : Type 1} → statement M
 write-spec =
@@ -27,29 +27,29 @@ write-spec =
     (λ c κs.
     let w = c .before .before .before .before in
     let l = w .before .before .loop in
-    last-fits _ _ _ (l .fuel) (l .set) (l .at) (l .words) _ (l .out) (l .inv) _ (w .before .loop-test .taken) (w .decide .ensures) _
+    last-fits _ _ _ (l .fuel) (l .set) (l .at) (l .behind) _ (l .out) (l .inv) _ (w .before .loop-test .taken) (w .decide .ensures) _
     _ (c .before .before .items .given .1))
     (λ c. let w = c .before .before in w .put-items .kept .0 ∙ w .before .before .before .before .before .before .before .loop .inv .same)
     (λ c.
     let p = c .before .before in
     let w = p .before .before .before .before .before in
     let l = w .before .before .loop in
-    writing-ends _ _ _ (l .fuel) (l .set) (l .at) (l .words) _ (l .out) (l .inv) _ (w .before .loop-test .taken) (w .decide .ensures) _
+    writing-ends _ _ _ (l .fuel) (l .set) (l .at) (l .behind) _ (l .out) (l .inv) _ (w .before .loop-test .taken) (w .decide .ensures) _
     _ (p .before .before .before .items .given .1) _ _ (p .put-items .ensures))
     (λ c. search needs)
     (λ c κs.
     let w = c .before .before .before .before in
     let l = w .before .before .loop in
-    next-fits _ _ _ (l .fuel) (l .set) (l .at) (l .words) _ (l .out) (l .inv) _ (w .before .loop-test .taken) (w .decide .ensures) _
+    next-fits _ _ _ (l .fuel) (l .set) (l .at) (l .behind) _ (l .out) (l .inv) _ (w .before .loop-test .taken) (w .decide .ensures) _
     _ _ (c .before .before .items2 .given .1))
     (λ c. search needs)
     (λ c.
     let p = c .before .before in
     let w = p .before .before .before .before .before in
     let l = w .before .before .loop in
-    writing-goes-on _ _ _ (l .fuel) (l .set) (l .at) (l .words) _ (l .out) (l .inv) _ (w .before .loop-test .taken) (w .decide .ensures) _
+    writing-goes-on _ _ _ (l .fuel) (l .set) (l .at) (l .behind) _ (l .out) (l .inv) _ (w .before .loop-test .taken) (w .decide .ensures) _
     _ _ (p .before .before .before .items2 .given .1) _ _ (p .put-items2 .ensures) (p .put-items2 .kept .0))
     (λ c. c .before .loop .inv .same)
     (λ c.
     let l = c .before .loop in
-    writing-stops _ _ _ (l .fuel) (l .set) (l .at) (l .words) _ (l .out) (l .inv) (c .loop-test .left)))
+    writing-stops _ _ _ (l .fuel) (l .set) (l .at) (l .behind) _ (l .out) (l .inv) (c .loop-test .left)))

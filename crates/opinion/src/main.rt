@@ -1,0 +1,96 @@
+// Reads a log from standard input and prints the second opinion on it, in the form in which `play` prints what the reader says.
+//
+// The log is read whole, into one buffer of 1,048,576 bytes. Of a longer one nothing is read: `refused 9 at 1048576`. Where standard
+// input can't be read to its end, standard error says why, and nothing is printed. Where standard output can't be written, standard
+// error says why, and some of the text may have been written.
+mod messages;
+
+use input::Input;
+use libc::STDERR_FILENO;
+use libc::STDOUT_FILENO;
+use verdict::LONGEST_LOG;
+use verdict::Shown;
+use verdict::TEXT_ROOM;
+ghost use Prim.Native.Nat.{_≤_};
+ghost use mathlib.Core.Path.{_≡_};
+ghost use lib.ListN.{length};
+ghost use Rattle.verdict.specs.Shows.{longest-log, text-room};
+ghost use Rattle.opinion.specs.Texts.{Has-text};
+
+// Buffers as they are given: a parameter's length is known by its type, that of a new array would take too long to compute.
+fn with_log(log: [u8; LONGEST_LOG]) -> [u8; LONGEST_LOG]
+    ensures { λ r. ⌜ longest-log ≡ length r ⌝ }
+{
+    log
+}
+
+fn with_text(out: [u8; TEXT_ROOM]) -> [u8; TEXT_ROOM]
+    ensures { λ r. ⌜ text-room ≡ length r ⌝ }
+{
+    out
+}
+
+// Prints a text, and what a refusal means.
+fn print(text: &[u8], number: u32, offset: usize) {
+    if io::write_all(STDOUT_FILENO, text) {
+        messages::explain(number, offset);
+        return;
+    }
+    os::fail(b"opinion: standard output");
+}
+
+// Prints the text of a log.
+fn print_text(shown: Shown, out: &[u8])
+    requires { ⌜ Has-text (length (now out)) shown ⌝ }
+{
+    match shown {
+        // There is room: `with_text`.
+        Shown::Unread => {}
+        Shown::Text {
+            bytes,
+            number,
+            offset,
+        } => print(&out[..bytes], number, offset),
+    }
+}
+
+fn print_log(log: &[u8], out: &mut [u8])
+    requires { ⌜ length (now log) ≤ longest-log ⌝ }
+    requires { ⌜ text-room ≤ length (now out) ⌝ }
+{
+    let shown = verdict::show(log, out);
+    print_text(shown, out);
+}
+
+fn run() {
+    let mut log = with_log([0; LONGEST_LOG]);
+    let mut out = with_text([0; TEXT_ROOM]);
+    match input::read(&mut log) {
+        Input::Whole(n) => print_log(&log[..n], &mut out),
+        Input::Longer => print(b"refused 9 at 1048576\n", 9, 1048576),
+        Input::Failed => os::fail(b"opinion: standard input"),
+    }
+}
+
+// Whether the one argument asks how to use the program.
+fn help_asked() -> bool {
+    let mut buf = io::buffer();
+    let n = os::arg(1, &mut buf);
+    check::same(&buf[..n], b"--help")
+}
+
+fn main() {
+    let count = os::arg_count();
+    // The program's own name is one of them.
+    if count <= 1 {
+        run();
+        return;
+    }
+    if count == 2 {
+        if help_asked() {
+            messages::print_usage(STDOUT_FILENO);
+            return;
+        }
+    }
+    messages::print_usage(STDERR_FILENO);
+}
