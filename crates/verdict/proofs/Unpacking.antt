@@ -9,6 +9,7 @@ use lib.Seq.{take-all}
 use Rattle.runs.specs.Filled.{Stored}
 use Rattle.runs.proofs.Filling.{stored-both}
 use Rattle.keylog.specs.Runs.{high-first, encoded}
+use Rattle.text.specs.Puts.{Puts}
 use Rattle.text.specs.Text.{sign, text}
 use Rattle.text.proofs.Signs.{text-short, text-append}
 use Rattle.verdict.specs.Verdict.{unpacked}
@@ -69,12 +70,13 @@ begun packed run =
 module _ (packed run : List ℕ) (fits : 3 * (length packed / 2) ≤ length run) (out : List ℕ) (at : ℕ) (rest : List ℕ)
     (u : Unpacking packed run out at rest) where
   module _ (more : 2 ≤ length rest) (w : ℕ) (is-w : w ≡ first-word rest) where
-    pub next-fits : at + length (sign w) ≤ length out
+    next-fits : at + length (sign w) ≤ length out
     next-fits = omega (arith, sign-short w, u .few, u .long)
 
-    pub taken : (r : ℕ) (after : List ℕ) → length after ≡ length out → Stored at (sign w) out r after
+    pub taken : (r : ℕ) (after : List ℕ) → length after ≡ length out → Puts at (sign w) out r after
         → Unpacking packed run after r (take (length rest - 2) (drop 2 rest))
-    taken r after kept s =
+    taken r after kept p =
+        let s = p .fits next-fits in
         let both = stored-both 0 (text (u .words)) (sign w) run at out r after (omega arith) (u .holds) s in
         record {
           words = u .words ++ (w ∷ []);

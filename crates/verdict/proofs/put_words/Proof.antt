@@ -1,7 +1,7 @@
 -- `verdict::put_words` meets its contract.
 use borrow.Author.Needs.{needs}
 use lib.ListN.{length}
-use Rattle.verdict.proofs.Unpacking.{Unpacking, begun, next-fits, taken, all-taken, less}
+use Rattle.verdict.proofs.Unpacking.{Unpacking, begun, taken, all-taken, less}
 use Rattle.verdict.proofs.put_words.Statement.{statement}
 use Rattle.verdict.proofs.put_words.Tie as tie
 
@@ -21,9 +21,7 @@ put-words-spec =
     (λ c. search needs)
     (λ c. search needs)
     (λ c κs. search needs)
-    (λ c κs.
-    next-fits _ _ (c .before .before .before .before .before .before .before .before .pre) _ _ _ (c .before .before .before .before .before .loop .inv)
-    (c .before .before .before .before .loop-test .taken) _ (c .word .ensures))
+    (λ c κs. search needs)
     (λ c. search needs)
     (λ c. search needs)
     (λ c. search needs)
