@@ -1,13 +1,13 @@
 -- What the functions store, put together from its parts, and the room that it takes.
-use Prim.Native.Nat.{ℕ, _+_, _*_, _/_, _≤_, _<_}
+use Prim.Native.Nat.{ℕ, _*_, _/_, _≤_, _<_}
 use native.Mathlib.Nat.{zero-add}
 use native.Mathlib.Omega.{arith}
 use borrow.Author.Tests.{le-leb, lt-leb}
 use mathlib.Core.Bool.{true, false, and-false}
 use mathlib.Core.Path.{_≡_, refl, sym, ap, _∙_}
-use mathlib.Core.List.{List, [], _∷_, _++_}
+use mathlib.Core.List.{List, _++_}
 use lib.Dec.{leb}
-use lib.ListN.{length, take, drop}
+use lib.ListN.{length, take}
 use lib.Seq.{take-append-seam}
 use Rattle.runs.specs.Filled.{filled, Stored}
 use Rattle.runs.proofs.Filling.{stored-both}
@@ -15,11 +15,11 @@ use Rattle.keylog.specs.Runs.{high-first, encoded}
 use Rattle.keylog.specs.declared.LogAnswer.{LogAnswer}
 use Rattle.keylog.proofs.Encoded.{length-encoded}
 use Rattle.text.specs.Text.{text}
-use Rattle.inspected.specs.OfLog.{Opined, on-log, opined, answer-of}
+use Rattle.inspected.specs.OfLog.{on-log, opined, answer-of}
 use Rattle.inspected.proofs.SameAsReader.{same-as-reader}
 use Rattle.second.specs.Whole.{Gives}
 use Rattle.status.specs.Status.{line-end, status}
-use Rattle.verdict.specs.Verdict.{unpacked, below, lines, opinion-text}
+use Rattle.verdict.specs.Verdict.{unpacked, below, lines}
 use Rattle.verdict.specs.Shows.{longest-log, word-room, packed-room, text-room, fits, shown, Shows}
 use Rattle.verdict.specs.declared.Shown.the-variants.{Unread, Text}
 use Rattle.verdict.proofs.Unpacking.{unpacked-back}

@@ -85,7 +85,13 @@ fn put_log(log: &[u8], out: &mut [u8]) -> Shown
     let mut packed = with_packed([0; PACKED_ROOM]);
     let answer = second::opine(log, &mut packed);
     let n = 2 * answer.words;
-    let bytes = put_lines(out, &packed[..n], answer.number, answer.waiting, answer.offset);
+    let bytes = put_lines(
+        out,
+        &packed[..n],
+        answer.number,
+        answer.waiting,
+        answer.offset,
+    );
     Shown::Text {
         bytes: bytes,
         number: answer.number,

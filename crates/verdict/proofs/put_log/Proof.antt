@@ -19,20 +19,33 @@ put-log-spec =
     let p = c .before .before in
     let w = p .before .before in
     let o = w .before .before .before in
-    omega (arith, words-fit (o .args .log .now) (o .pre .0) (w .with-packed .result) (w .with-packed .ensures) (p .opine .result)
-    (p .opine .last .1 .0) (p .opine .ensures)))
+    omega (
+      arith,
+      words-fit (o .args .log .now) (o .pre .0) (w .with-packed .result) (w .with-packed .ensures) (p .opine .result)
+          (p .opine .last .1 .0) (p .opine .ensures),
+    ))
     (λ c.
     let p = c .before .before .before in
     let w = p .before .before in
     let o = w .before .before .before in
-    omega (arith, words-fit (o .args .log .now) (o .pre .0) (w .with-packed .result) (w .with-packed .ensures) (p .opine .result)
-    (p .opine .last .1 .0) (p .opine .ensures), p .opine .kept .1 .0, w .with-packed .ensures))
+    omega (
+      arith,
+      words-fit (o .args .log .now) (o .pre .0) (w .with-packed .result) (w .with-packed .ensures) (p .opine .result)
+          (p .opine .last .1 .0) (p .opine .ensures),
+      p .opine .kept .1 .0,
+      w .with-packed .ensures,
+    ))
     (λ c.
     let p = c .before .before .before .before in
     let w = p .before .before in
     let o = w .before .before .before in
-    sym (length-take-le _ _ (omega (arith, words-fit (o .args .log .now) (o .pre .0) (w .with-packed .result) (w .with-packed .ensures) (p .opine .result)
-    (p .opine .last .1 .0) (p .opine .ensures), p .opine .kept .1 .0, w .with-packed .ensures))))
+    sym (length-take-le _ _ (omega (
+      arith,
+      words-fit (o .args .log .now) (o .pre .0) (w .with-packed .result) (w .with-packed .ensures) (p .opine .result)
+          (p .opine .last .1 .0) (p .opine .ensures),
+      p .opine .kept .1 .0,
+      w .with-packed .ensures,
+    ))))
     (λ c κs.
     let p = c .before .before .before .before in
     let w = p .before .before in
@@ -46,7 +59,9 @@ put-log-spec =
     (λ c.
     let p = c .before .before .before .before .before .before .before in
     let w = p .before .before in
-    let o = w .before .before .before in
-    (is-shown (o .args .log .now) (o .pre .0) (w .with-packed .result) (w .with-packed .ensures) (p .opine .result)
-    (p .opine .last .1 .0) (p .opine .ensures)
-    (o .args .out .now) (o .pre .1) _ _ (c .before .before .put-lines .ensures .0), c .before .before .put-lines .ensures .1)))
+    let o = w .before .before .before in (
+      is-shown (o .args .log .now) (o .pre .0) (w .with-packed .result) (w .with-packed .ensures) (p .opine .result)
+          (p .opine .last .1 .0) (p .opine .ensures)
+          (o .args .out .now) (o .pre .1) _ _ (c .before .before .put-lines .ensures .0),
+      c .before .before .put-lines .ensures .1,
+    )))
