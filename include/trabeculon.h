@@ -2,10 +2,10 @@
  * Trabeculon: a proved key-timing engine for NICOLA thumb-shift keyboards. This
  * is its face for a C host: eleven functions over runs and numbers. One reads a
  * log, one gives a second opinion on it, and one writes the log of a line; three
- * drive a live keyboard: one opens
- * a machine, one takes an event, one says how far away the next deadline is;
- * two take an event and say the distance at a keyboard of a row; and three read
- * a log that arrives in pieces. All of them are in libtrabeculon.a.
+ * drive a live keyboard: one opens a machine, one takes an event, one says how
+ * far away the next deadline is; two take an event and say the distance at a
+ * keyboard of a row; and three read a log that arrives in pieces. All of them
+ * are in libtrabeculon.a.
  *
  * Each function is proved equal to a definition, for every input, and to
  * return. Behind "Proved:" stand the definitions and statements that carry what
@@ -194,8 +194,8 @@ trabeculon_answer trabeculon_read_log(const uint8_t *log, size_t log_len,
 /*
  * A plain second opinion on a log (request 11/12), for an inspector: another
  * engine, which keeps no waiting letter and looks forward over the log's
- * accepted events. It takes what trabeculon_read_log takes and lends, and
- * answers in the same form:
+ * accepted events. It is lent what trabeculon_read_log is lent, and answers in
+ * the same form:
  *
  *   - if the log's list has at least one pair: number 14, offset 8, the list's
  *     record, words and waiting 0, whatever comes behind it. A list that is

@@ -156,6 +156,9 @@ static void random_line(void) {
 
 static void no_call(void) {}
 static void call_read_log(void) { answer = trabeculon_read_log(log_bytes, log_len, out, sizeof out); }
+static void call_second_opinion(void) {
+    answer = trabeculon_second_opinion(log_bytes, log_len, out, sizeof out);
+}
 static void call_write_drill(void) {
     drill = trabeculon_write_drill(t, j, l, solo, line, LINE, log_bytes, sizeof log_bytes);
 }
@@ -207,6 +210,7 @@ static void deepest(size_t *most, void (*call)(void)) {
 
 int main(void) {
     size_t fresh = 0, piece_of_log = 0, end = 0;
+    size_t opinion = 0;
     size_t read_log = 0, write_drill = 0, open = 0, step = 0, distance = 0;
     size_t row_step = 0, row_distance = 0;
     size_t refused = 0, commits = 0;
@@ -232,6 +236,7 @@ int main(void) {
         }
         random_log();
         deepest(&read_log, call_read_log);
+        deepest(&opinion, call_second_opinion);
         deepest(&fresh, call_reader_fresh);
         for (size_t at = 0; at < log_len; at += piece_len) {
             random_piece(at);
@@ -244,6 +249,7 @@ int main(void) {
     }
     size_t none = depth_of(no_call);
     printf("trabeculon_read_log      %6zu\n", read_log - none);
+    printf("trabeculon_second_opinion%6zu\n", opinion - none);
     printf("trabeculon_reader_fresh  %6zu\n", fresh - none);
     printf("trabeculon_reader_piece  %6zu\n", piece_of_log - none);
     printf("trabeculon_reader_end    %6zu\n", end - none);

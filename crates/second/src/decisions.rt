@@ -15,8 +15,10 @@ use preview::Items;
 use rules::Event;
 use rules::Face;
 use rules::Item;
+use rules::Key;
 use rules::Settings;
 use rules::Thumb;
+use waits::same_key;
 use waits::second_character_takes_thumb;
 use waits::second_thumb_takes_character;
 use waits::short_overlap;
@@ -53,8 +55,7 @@ pub enum Decision {
 fn which(thumb: Event) -> Thumb
     ensures { λ r. ⌜ r ≡ opinions.which thumb ⌝ }
 {
-    let key = thumb.key;
-    if key.0 == 0 {
+    if same_key(thumb.key, Key(0)) {
         return Thumb::Left;
     }
     Thumb::Right
