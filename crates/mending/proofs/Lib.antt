@@ -1,0 +1,6 @@
+pub mod Examples
+pub mod LogParts
+pub mod Copied
+pub mod Refused
+pub mod Laws
+pub mod WhichRecords

@@ -1,0 +1,4 @@
+pub mod Mending
+pub mod Laws
+pub mod WhichRecords
+pub mod Examples
