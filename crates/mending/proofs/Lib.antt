@@ -4,3 +4,4 @@ pub mod Copied
 pub mod Refused
 pub mod Laws
 pub mod WhichRecords
+pub mod Stretches

@@ -2,3 +2,4 @@ pub mod Mending
 pub mod Laws
 pub mod WhichRecords
 pub mod Examples
+pub mod Stretches
