@@ -1,11 +1,11 @@
 /*
  * Trabeculon: a proved key-timing engine for NICOLA thumb-shift keyboards. This
- * is its face for a C host: eleven functions over runs and numbers. One reads a
- * log, one gives a second opinion on it, and one writes the log of a line; three
- * drive a live keyboard: one opens a machine, one takes an event, one says how
- * far away the next deadline is; two take an event and say the distance at a
- * keyboard of a row; and three read a log that arrives in pieces. All of them
- * are in libtrabeculon.a.
+ * is its face for a C host: twelve functions over runs and numbers. One reads a
+ * log, one gives a second opinion on it, one mends a damaged one, and one writes
+ * the log of a line; three drive a live keyboard: one opens a machine, one takes
+ * an event, one says how far away the next deadline is; two take an event and say
+ * the distance at a keyboard of a row; and three read a log that arrives in
+ * pieces. All of them are in libtrabeculon.a.
  *
  * Each function is proved equal to a definition, for every input, and to
  * return. Behind "Proved:" stand the definitions and statements that carry what
@@ -904,6 +904,69 @@ TRABECULON_SIZE(trabeculon_row_stepped, 20);
 TRABECULON_SIZE(trabeculon_reader, 120);
 TRABECULON_SIZE(trabeculon_piece_read, 144);
 #undef TRABECULON_SIZE
+
+/* ---- Mending a damaged log (request 12/12) ---- */
+
+/* So many of the dropped records are listed; all are counted. */
+#define TRABECULON_MOST_LISTED 1000
+
+/*
+ * What the mender answers: the number, how many bytes the mended log has, how
+ * many dropped records stand in the list, and how many were dropped in all. If
+ * number is not 0, the others are 0.
+ */
+typedef struct {
+    uint64_t number;
+    uint64_t bytes;
+    uint64_t listed;
+    uint64_t dropped;
+} trabeculon_mended;
+
+/*
+ * Mends a damaged log into a lent run of bytes.
+ *
+ * The log is log_len bytes, in the form that trabeculon_read_log reads. Its
+ * records are copied to out where the reader, word room apart, accepts them
+ * after the ones already copied; the others are dropped, each stepped over by
+ * its stated length. A cut tail is dropped as one record, with 6. A list of
+ * pairs behind a dropped second record is copied if it is good.
+ *
+ * The number is
+ *   0  the log is mended;
+ *   n  of the first record, if that is not good settings (6 for an empty log);
+ *      or of the second, if its tag is 3 and it is not accepted, cut included;
+ *   8  what is copied does not fit out (checked last).
+ *
+ * The list has two numbers for each dropped record: its offset in log, and the
+ * number with which the reader refuses it there (see trabeculon_read_log).
+ * Listed are the first 1,000, in order, or as many as list has room for:
+ * list_len / 2; an odd last number of it is never touched.
+ *
+ * Afterwards:
+ *   - if number is 0, the first bytes bytes of out hold the mended log, the
+ *     first 2 * listed numbers of list the list, and all else of both holds
+ *     what it held before;
+ *   - if not, both hold what they held before;
+ *   - the log is unchanged.
+ * Nothing is kept between two calls. A run of log_len bytes always suffices.
+ *
+ * What it writes is accepted by the reader given enough room; a log that the
+ * reader accepts comes out byte for byte the same; mending what it wrote writes
+ * the same bytes and drops nothing. Demand 3 is claimed of the mended log only.
+ *
+ * The caller lends log_len readable bytes at log, out_len writable bytes at out
+ * and list_len writable numbers at list, aligned as a uint64_t is; no two of
+ * them overlap. Each length may be 0; the pointer is not null even then.
+ *
+ * Proved: the answer and both runs afterwards (Mends, mender/specs/Runs.antt,
+ * over mending/specs/Mending.antt); the sentences above (Mend-laws,
+ * mending/specs/Laws.antt); which records are copied, with which number and
+ * offset the others are dropped, and the first 1,000 (Which-records,
+ * First-listed, mending/specs/WhichRecords.antt).
+ */
+trabeculon_mended trabeculon_mend(const uint8_t *log, size_t log_len,
+                                  uint8_t *out, size_t out_len,
+                                  uint64_t *list, size_t list_len);
 
 #ifdef __cplusplus
 }

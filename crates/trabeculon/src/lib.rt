@@ -1,5 +1,5 @@
-// The whole face for a C host, as one library: libtrabeculon.a. Each function is that of `host`, `keyboard` or `keyboards` under the
-// same name, with its contract.
+// The whole face for a C host, as one library: libtrabeculon.a. Each function is that of `host`, `mended`, `keyboard` or `keyboards` under
+// the same name, with its contract.
 use flat::Flat;
 use host::Answer;
 use host::Drill;
@@ -9,6 +9,7 @@ use keyboard::DistanceAnswer;
 use keyboard::OpenAnswer;
 use keyboard::StepAnswer;
 use keyboards::RowStepAnswer;
+use mended::MendAnswer;
 use rules::Stamp;
 ghost use Prim.Native.Nat.{_/_};
 ghost use mathlib.Core.Path.{_≡_};
@@ -24,6 +25,8 @@ ghost use Rattle.host.specs.Drills.{drilled};
 ghost use Rattle.pieces.specs.Readers.{accepted};
 ghost use Rattle.host.specs.InPieces.{fresh-numbers, GivesPiece, GivesEnd};
 ghost use Rattle.keyboard.specs.Keyboard.{lent-of, event-of, open-numbers, step-numbers, distance-numbers};
+ghost use Rattle.mender.specs.Runs.{Mends};
+ghost use Rattle.mended.specs.Face as mended;
 ghost use Rattle.keyboards.specs.Keyboards.{row-numbers, row-step-numbers, row-distance-numbers};
 
 #[no_mangle]
@@ -144,4 +147,11 @@ pub extern "C" fn trabeculon_row_distance(
     ensures { λ r. ⌜ r ≡ row-distance-numbers (lent-of (now (pairs .entry)) ts n) (now (row .entry)) board stamp ⌝ }
 {
     keyboards::trabeculon_row_distance(row, pairs, ts, n, board, stamp)
+}
+
+#[no_mangle]
+pub extern "C" fn trabeculon_mend(log: &[u8], out: &mut [u8], list: &mut [u64]) -> MendAnswer
+    ensures { λ r. ⌜ Mends (now (log .entry)) (now (out .entry)) (now (list .entry)) (mended.told r) (now (out .exit)) (now (list .exit)) ⌝ }
+{
+    mended::trabeculon_mend(log, out, list)
 }
