@@ -1,6 +1,6 @@
 //! Makes the files of examples/ byte for byte: `make_examples FOLDER`. Each
 //! example is a log, a text that says what was typed, and what `play` prints; a
-//! drill has its line too. What is printed stands here as text and is checked
+//! drill has its line too, and a damaged log what `mend | play` prints. What is printed stands here as text and is checked
 //! against the model, and the log of a drill against the model's writer.
 
 use std::io::{Error, Result};
@@ -9,6 +9,7 @@ use std::process::ExitCode;
 
 use trabeculon_model::drill::drill;
 use trabeculon_model::log::{log_with, play};
+use trabeculon_model::mend::mend;
 use trabeculon_model::notation::events;
 use trabeculon_model::pairs::{pair, Lent, Pair};
 
@@ -26,6 +27,9 @@ struct Example {
     text: &'static str,
     expected: &'static str,
 }
+
+/// What `mend | play` prints of the damaged log: without the thumb か is no chord.
+const MENDED: &str = "さいかい\nwaiting 0\n";
 
 const USUAL: (u16, u8, u8, u8) = (100, 50, 50, 0);
 const SLOW: (u16, u8, u8, u8) = (1_000, 50, 50, 0);
@@ -350,6 +354,13 @@ fn make(folder: &Path, example: &Example) -> Result<()> {
     };
     if let Some(line) = example.line {
         write("line", line.as_bytes())?;
+    }
+    if example.damage.is_some() {
+        if mend(&log).is_ok_and(|mended| play(&mended.log) == MENDED) {
+            write("mended", MENDED.as_bytes())?;
+        } else {
+            return Err(Error::other(format!("{}: the model mends it otherwise", example.name)));
+        }
     }
     write("log", &log)?;
     write("txt", example.text.as_bytes())?;
