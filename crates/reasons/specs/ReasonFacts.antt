@@ -1,0 +1,70 @@
+-- The reasons are true: they are of the items that are committed, the line that they name committed them, what they say was compared
+-- decides, and at the turning stamps, there and only there, the decision becomes another one. The proofs are in proofs/.
+use Prim.Native.Nat.{ℕ, suc, _≤_}
+use mathlib.Core.Bool.{Bool, true, false}
+use mathlib.Core.List.{List, [], map}
+use mathlib.Core.Logic.{_≢_}
+use mathlib.Core.Option.{Option, none, some}
+use mathlib.Core.Path.{_≡_}
+use Rattle.rules.specs.Numbers.{in-range}
+use Rattle.rules.specs.Pairs.{Lent, lent-good}
+use Rattle.rules.specs.States.{deadline}
+use Rattle.rules.specs.OneEvent.{Done, _leaving_, late as late-line, act, due-by, one-event}
+use Rattle.rules.specs.GivenBack.{input, acts-as, Answer, step}
+use Rattle.rules.specs.Sequences.{items}
+use Rattle.rules.specs.declared.Stamp.{Stamp}
+use Rattle.rules.specs.declared.Key.{Key}
+use Rattle.rules.specs.declared.Settings.{Settings}
+use Rattle.rules.specs.declared.Resting.{Resting}
+use Rattle.rules.specs.declared.Machine.{Machine}
+use Rattle.rules.specs.declared.Item.{Item}
+use Rattle.rules.specs.declared.Event.{Event}
+use Rattle.rules.specs.declared.Input.{Input}
+use Rattle.rules.specs.declared.Input.the-variants.{Tick}
+use Rattle.reasons.specs.Turning.{unstamped, decided, since, never, turnings, passed}
+use Rattle.reasons.specs.Reason.{Cause, late, by, Test, comes-out, compared, reason, Reasoned, step-reasons, reasons}
+
+abbrev pub item-of : Reasoned → Item
+item-of r = r .item
+
+-- Of everything lent, every machine and event: each committed item has its reason, and nothing else has one.
+abbrev pub SameItems : Lent → Machine → Event → Type 0
+SameItems g m e = map item-of (step-reasons g m e) ≡ step g m e .items
+
+-- the same of every sequence from a fresh state, refused events among it
+abbrev pub SameItemsAlong : Lent → Settings → List Event → Type 0
+SameItemsAlong g s es = map item-of (reasons g s es) ≡ items g s es
+
+-- what the line commits that a cause names
+abbrev pub commits : Lent → Settings → Stamp → Resting → Cause → List Item
+commits g s now x late = late-line g s x .items
+commits g s now x (by i) = act g s now x i .items
+
+-- Of everything lent, all settings, stamps, states and events.
+pub record TrueCause (g : Lent) (s : Settings) (now : Stamp) (x : Resting) (i : Input) : Type 0 where
+  -- the line that the cause names commits what is committed
+  pub commits-it : one-event g s now x i .items ≡ commits g s now x (reason g s now x i .cause)
+  -- a tick is no cause
+  pub not-by-tick : commits g s now x (by Tick) ≡ []
+
+-- What a line compares decides, before the deadline: where it comes out the same at two stamps, the decision is the same; where it
+-- comes out otherwise, the decision is another one.
+pub record TrueTest (g : Lent) (s : Settings) (x : Resting) (i : Input) (t u : Stamp) : Type 0 where
+  pub same-test : comes-out (compared g s t x i) ≡ comes-out (compared g s u x i) → decided g s x i t ≡ decided g s x i u
+  pub other-test : comes-out (compared g s t x i) ≡ true → comes-out (compared g s u x i) ≡ false → decided g s x i t ≢ decided g s x i u
+
+abbrev pub True-test : Type 0
+True-test =
+    (g : Lent) (s : Settings) (x : Resting) (i : Input) (t u : Stamp) → due-by t (deadline g s x) ≡ false → due-by u (deadline g s x) ≡ false
+    → TrueTest g s x i t u
+
+-- Of a decision by the stamp: with the same turning stamps passed it is the same; with one more it is another one.
+pub record Turns (from : Stamp) (turning : List Stamp) (decides : Stamp → Done) : Type 0 where
+  pub same-side : (t u : Stamp) → from .0 ≤ t .0 → from .0 ≤ u .0 → passed t turning ≡ passed u turning → decides t ≡ decides u
+  pub other-side : (t u : Stamp) → from .0 ≤ t .0 → from .0 ≤ u .0 → passed u turning ≡ suc (passed t turning) → decides t ≢ decides u
+
+-- The statement: of a good list, settings in range, every state and every event.
+abbrev pub True-turnings : Type 0
+True-turnings =
+    (g : Lent) → lent-good g ≡ true → (s : Settings) → in-range s ≡ true → (x : Resting) (i : Input)
+    → Turns (since x) (turnings g s x i) (decided g s x i)
