@@ -1,2 +1,6 @@
 pub mod Examples
 pub mod Items
+pub mod Sides
+pub mod Gaps
+pub mod Turnings
+pub mod Tested
