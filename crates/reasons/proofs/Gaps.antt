@@ -126,7 +126,7 @@ not-short-of-before s r b k t h = le-ltb (100 * b) (s .l * lag k t) (go (decLe (
     go (yes j) = j
     go (no j) =
         let i : (100 * b) / s .l < lag k t =
-            div-lt-iff-lt-mul {k = s .l} (omega arith) .1 (omega (arith, lt-of-not-le j, mul-comm (s .l) (lag k t))) in
+        div-lt-iff-lt-mul {k = s .l} (omega arith) .1 (omega (arith, lt-of-not-le j, mul-comm (s .l) (lag k t))) in
         absurd (omega arith)
 
 pub short-of-from : (s : Settings) → InRange s → (b : ℕ) (k t : Stamp) → k .0 + ((100 * b) / s .l + 1) ≤ t .0 → short-of (s .l) b (lag k t) ≡ true

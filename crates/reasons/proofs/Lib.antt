@@ -4,3 +4,4 @@ pub mod Sides
 pub mod Gaps
 pub mod Turnings
 pub mod Tested
+pub mod Margins

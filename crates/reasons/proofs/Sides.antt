@@ -48,30 +48,34 @@ commit-another = apart (λ (d : Done). weight (d .items))
 
 module _ (from : Stamp) (decides : Stamp → Done) where
   pub same-always : (p : Done) → ((t : Stamp) → from .0 ≤ t .0 → decides t ≡ p) → Turns from [] decides
-  same-always p h = record { same-side = λ t u i j _. h t i ∙ sym (h u j); other-side = λ t u i j e. absurd (omega arith) }
+  same-always p h = record { in-order = tt; same-side = λ t u i j _. h t i ∙ sym (h u j); other-side = λ t u i j e. absurd (omega arith) }
 
   -- p before v, q from there on
   pub turns-once : (v : Stamp) (p q : Done) → ((t : Stamp) → from .0 ≤ t .0 → t .0 < v .0 → decides t ≡ p)
       → ((t : Stamp) → from .0 ≤ t .0 → v .0 ≤ t .0 → decides t ≡ q) → p ≢ q → Turns from (v ∷ []) decides
   turns-once v p q before behind differ =
       record {
+        in-order = tt;
         same-side = λ t u i j e. by-side t i ∙ same (at-or-before v t) (at-or-before v u) e ∙ sym (by-side u j);
         other-side = λ t u i j e f. other (at-or-before v t) (at-or-before v u) e (sym (by-side t i) ∙ f ∙ by-side u j);
       }
     where
       side : Bool → Done
       side b = if b then q else p
+
       by-side : (t : Stamp) → from .0 ≤ t .0 → decides t ≡ side (at-or-before v t)
       by-side t i = go (leb (v .0) (t .0)) refl
         where
           go : (b : Bool) → leb (v .0) (t .0) ≡ b → decides t ≡ side b
           go true h = behind t i (leb-true _ _ h)
           go false h = before t i (leb-false _ _ h)
+
       same : (b c : Bool) → (if b then 1 else 0) + 0 ≡ (if c then 1 else 0) + 0 → side b ≡ side c
       same true true e = refl
       same true false e = absurd (omega arith)
       same false true e = absurd (omega arith)
       same false false e = refl
+
       other : (b c : Bool) → (if c then 1 else 0) + 0 ≡ suc ((if b then 1 else 0) + 0) → side b ≡ side c → ⊥
       other true true e f = absurd (omega arith)
       other true false e f = absurd (omega arith)
@@ -84,6 +88,7 @@ module _ (from : Stamp) (decides : Stamp → Done) where
       → ((t : Stamp) → from .0 ≤ t .0 → d .0 ≤ t .0 → decides t ≡ r) → p ≢ q → q ≢ r → Turns from (v ∷ d ∷ []) decides
   turns-twice v d p q r sooner before between behind differ differ-then =
       record {
+        in-order = (sooner, tt);
         same-side = λ t u i j e. by-side t i ∙ ap side e ∙ sym (by-side u j);
         other-side = λ t u i j e f.
             other (passed t (v ∷ d ∷ [])) (omega (arith, at-most-two u, e)) (sym (by-side t i) ∙ f ∙ by-side u j ∙ ap side e);
@@ -93,6 +98,7 @@ module _ (from : Stamp) (decides : Stamp → Done) where
       side zero = p
       side (suc zero) = q
       side (suc (suc n)) = r
+
       by-side : (t : Stamp) → from .0 ≤ t .0 → decides t ≡ side (passed t (v ∷ d ∷ []))
       by-side t i = go (leb (v .0) (t .0)) (leb (d .0) (t .0)) refl refl
         where
@@ -102,6 +108,7 @@ module _ (from : Stamp) (decides : Stamp → Done) where
           go true false h k = between t i (leb-true _ _ h) (leb-false _ _ k)
           go false true h k = absurd (omega (arith, leb-true (d .0) (t .0) k, leb-false (v .0) (t .0) h))
           go false false h k = before t i (leb-false _ _ h)
+
       at-most-two : (t : Stamp) → passed t (v ∷ d ∷ []) ≤ 2
       at-most-two t = go (leb (v .0) (t .0)) (leb (d .0) (t .0))
         where
@@ -110,6 +117,7 @@ module _ (from : Stamp) (decides : Stamp → Done) where
           go true false = omega arith
           go false true = omega arith
           go false false = omega arith
+
       other : (n : ℕ) → suc n ≤ 2 → side n ≡ side (suc n) → ⊥
       other zero h f = differ f
       other (suc zero) h f = differ-then f

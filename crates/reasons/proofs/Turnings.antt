@@ -104,6 +104,7 @@ module _ (g : Lent) (s : Settings) (x : Resting) (i : Input) where
             go : Dec (v .0 ≤ t .0) → v .0 ≤ t .0
             go (yes j) = j
             go (no j) = absurd (omega (arith, le-min {k = suc (t .0)} (lt-of-not-le j) h))
+
         from : (t : Stamp) → since x .0 ≤ t .0 → min (v .0) (d .0) ≤ t .0 → decided g s x i t ≡ overdue g s x i
         from t f b =
             either (leb (d .0) (t .0)) (λ h. is-late t (leb-true (d .0) (t .0) h))

@@ -21,8 +21,8 @@ use Rattle.rules.specs.declared.Item.{Item}
 use Rattle.rules.specs.declared.Event.{Event}
 use Rattle.rules.specs.declared.Input.{Input}
 use Rattle.rules.specs.declared.Input.the-variants.{CharacterDown, CharacterUp, ThumbDown, ThumbUp, FunctionDown, Tick}
-use Rattle.reasons.specs.Reason.{Cause, late, by, Test, nothing-compared, takes-thumb, takes-character, overlaps, stays, overlaps-as-pair}
-use Rattle.reasons.specs.Reason.{overlaps-of, Otherwise, Reasoned, reasons}
+use Rattle.reasons.specs.Reason.{Cause, late, by, Test, nothing-compared, takes-thumb, takes-character, overlaps, stays}
+use Rattle.reasons.specs.Reason.{overlaps-as-pair, overlaps-of, Otherwise, Reasoned, reasons}
 
 abbrev pub down : ℕ → ℕ → Event
 down k n = an-event 1 k n
@@ -55,24 +55,17 @@ letters M m K k = S7 (key M) (at m) (key K) (at k)
 abbrev pub letters-up : ℕ → ℕ → ℕ → ℕ → ℕ → Resting
 letters-up M m K k r = S8 (key M) (at m) (key K) (at k) (at r)
 
--- n milliseconds later this would have been decided
-abbrev pub too-early : ℕ → List Item → Resting → Otherwise
-too-early n is x = record { distance = pos n; decision = is leaving x }
+-- so many milliseconds sooner or later, this would have been decided
+abbrev pub ms : ℕ → List Item → Resting → Option Otherwise
+ms n is x = some (record { ms = n; decision = is leaving x })
 
--- just in time not to be decided so: one millisecond sooner it would have been
-abbrev pub at-the-turn : List Item → Resting → Otherwise
-at-the-turn is x = record { distance = pos 0; decision = is leaving x }
+abbrev pub because : Item → Resting → Cause → Test → ℤ → Option Otherwise → Option Otherwise → Reasoned
+because c x why t d sooner later =
+    record { item = c; reason = record { before = x; cause = why; test = t; due = some d; sooner = sooner; later = later } }
 
--- n+1 milliseconds behind the turn
-abbrev pub behind : ℕ → List Item → Resting → Otherwise
-behind n is x = record { distance = negsuc n; decision = is leaving x }
-
-abbrev pub because : Item → Resting → Cause → Test → ℤ → List Otherwise → Reasoned
-because c x why t d others = record { item = c; reason = record { before = x; cause = why; test = t; due = some d; turns = others } }
-
--- by the deadline, which lies at the event
-abbrev pub when-due : Item → Resting → List Otherwise → Reasoned
-when-due c x others = because c x late nothing-compared (pos 0) others
+-- by the deadline, which lies at the event: a millisecond sooner, this
+abbrev pub when-due : Item → Resting → List Item → Resting → Reasoned
+when-due c x is y = because c x late nothing-compared (pos 0) (ms 1 is y) none
 
 -- Keystrokes and the reasons of what they commit.
 pub record Asked : Type 0 where
@@ -97,53 +90,55 @@ abbrev pub さい-typed : List Event
 
 abbrev pub さい-because : List Reasoned
 さい-because =
-    because さ (letter 24 0) (by (CharacterUp (key 24))) nothing-compared (pos 40) [] ∷
-    because い (letter 18 100) (by (CharacterUp (key 18))) nothing-compared (pos 50) [] ∷ []
+    because さ (letter 24 0) (by (CharacterUp (key 24))) nothing-compared (pos 40) none none ∷
+    because い (letter 18 100) (by (CharacterUp (key 18))) nothing-compared (pos 50) none none ∷ []
 
 abbrev pub い-because : Reasoned
-い-because = when-due い (letter 18 300) (at-the-turn [] (letter 18 0) ∷ [])
+い-because = when-due い (letter 18 300) [] (letter 18 0)
 
 abbrev pub asked : List Asked
 asked =
-    why "P1" usual (down 21 0 ∷ tick 99 ∷ tick 100 ∷ []) (when-due か (letter 21 0) (at-the-turn [] (letter 21 0) ∷ []) ∷ []) ∷
+    why "P1" usual (down 21 0 ∷ tick 99 ∷ tick 100 ∷ []) (when-due か (letter 21 0) [] (letter 21 0) ∷ []) ∷
     -- up or late, it is か: no stamp turns that
-    why "P2" usual (down 21 0 ∷ up 21 50 ∷ []) (because か (letter 21 0) 21-up nothing-compared (pos 50) [] ∷ []) ∷
+    why "P2" usual (down 21 0 ∷ up 21 50 ∷ []) (because か (letter 21 0) 21-up nothing-compared (pos 50) none none ∷ []) ∷
     -- 29 ms of overlap, 30 were needed: 1 ms too early for が
     why "P3" usual (down 21 0 ∷ thumb Right 30 ∷ up 21 59 ∷ [])
-    (because か (letter-thumb 21 0 Right 30) 21-up (overlaps 50 30 29) (pos 1) (too-early 1 (が ∷ []) S1 ∷ []) ∷ []) ∷
+    (because か (letter-thumb 21 0 Right 30) 21-up (overlaps 50 30 29) (pos 1) none (ms 1 (が ∷ []) S1) ∷ []) ∷
     why "P4" usual (down 21 0 ∷ thumb Right 30 ∷ up 21 60 ∷ [])
-    (when-due が (letter-thumb 21 0 Right 30) (at-the-turn (か ∷ []) (S3 Right (at 0)) ∷ []) ∷ []) ∷
-    -- the thumb is 30 ms from 21 and 20 from 24: 24 takes it, 10 ms too early to leave it
+    (when-due が (letter-thumb 21 0 Right 30) (か ∷ []) (S3 Right (at 0)) ∷ []) ∷
+    -- the thumb is 30 ms from 21 and 20 from 24: 24 takes it; 10 ms later 21 would have kept it
     why "P7" usual (down 21 0 ∷ thumb Right 30 ∷ down 24 50 ∷ tick 70 ∷ [])
-    (because か (letter-thumb 21 0 Right 30) (by (CharacterDown (key 24))) (takes-thumb 30 20) (pos 10)
-    (too-early 10 (が ∷ []) (letter 24 0) ∷ []) ∷
-    when-due ざ (thumb-letter Right 30 24 50) (at-the-turn [] (thumb-letter Right 0 24 0) ∷ []) ∷ []) ∷
-    -- equal gaps, 15 ms before the deadline: one millisecond sooner 24 would have taken the thumb
+    (because か (letter-thumb 21 0 Right 30) (by (CharacterDown (key 24))) (takes-thumb 30 20) (pos 10) none
+    (ms 10 (が ∷ []) (letter 24 0)) ∷
+    when-due ざ (thumb-letter Right 30 24 50) [] (thumb-letter Right 0 24 0) ∷ []) ∷
+    -- equal gaps, 15 ms before the deadline: a millisecond sooner 24 would have taken the thumb
     why "P8" with-J-60 (down 21 0 ∷ thumb Right 30 ∷ down 24 60 ∷ tick 127 ∷ [])
     (because が (letter-thumb 21 0 Right 30) (by (CharacterDown (key 24))) (takes-thumb 30 30) (pos 15)
-    (at-the-turn (か ∷ []) (thumb-letter Right 0 24 0) ∷ []) ∷
-    when-due さ (letter 24 60) (at-the-turn [] (letter 24 0) ∷ []) ∷ []) ∷
+    (ms 1 (か ∷ []) (thumb-letter Right 0 24 0)) none ∷
+    when-due さ (letter 24 60) [] (letter 24 0) ∷ []) ∷
     why "P10" with-solo (thumb Right 0 ∷ down 21 40 ∷ thumb Left 60 ∷ tick 80 ∷ [])
-    (because right-mark (thumb-letter Right 0 21 40) (by (ThumbDown Left)) (takes-character 40 20) (pos 20)
-    (too-early 20 (が ∷ []) (S3 Left (at 0)) ∷ []) ∷
-    when-due え (letter-thumb 21 40 Left 60) (at-the-turn [] (letter-thumb 21 0 Left 0) ∷ []) ∷ []) ∷
-    -- a thumb that comes when M is due
-    why "late first" usual (down 21 0 ∷ thumb Right 100 ∷ [])
-    (when-due か (letter 21 0) (at-the-turn [] (letter-thumb 21 0 Right 0) ∷ []) ∷ []) ∷
-    -- 4/12: not the deadline, but the 400 ms
+    (because right-mark (thumb-letter Right 0 21 40) (by (ThumbDown Left)) (takes-character 40 20) (pos 20) none
+    (ms 20 (が ∷ []) (S3 Left (at 0))) ∷
+    when-due え (letter-thumb 21 40 Left 60) [] (letter-thumb 21 0 Left 0) ∷ []) ∷
+    -- a thumb that comes when M is due: a millisecond sooner they would have waited together
+    why "late first" usual (down 21 0 ∷ thumb Right 100 ∷ []) (when-due か (letter 21 0) [] (letter-thumb 21 0 Right 0) ∷ []) ∷
+    -- no lag, so nothing comes before its deadline
+    why "P6" usual (down 21 0 ∷ thumb Right 0 ∷ tick 0 ∷ [])
+    (because が (letter-thumb 21 0 Right 0) late nothing-compared (pos 0) none none ∷ []) ∷
+    -- 4/12: not the deadline turns it, but the 400 ms
     why "an overlap of 399" slow (down 21 0 ∷ thumb Right 500 ∷ up 21 899 ∷ [])
-    (because か (letter-thumb 21 0 Right 500) 21-up (overlaps 50 500 399) (pos 101) (too-early 1 (が ∷ []) S1 ∷ []) ∷ []) ∷
-    -- さいがい, disaster: 21 was up 10 ms behind the turn
+    (because か (letter-thumb 21 0 Right 500) 21-up (overlaps 50 500 399) (pos 101) none (ms 1 (が ∷ []) S1) ∷ []) ∷
+    -- さいがい, disaster: 21 was up 10 ms behind the deadline, so 11 ms sooner it would have been か
     why "disaster" usual
     (さい-typed ++ (down 21 200 ∷ thumb Right 230 ∷ up 21 270 ∷ thumb-up Right 280 ∷ down 18 300 ∷ tick 400 ∷ []))
     (さい-because ++
-    (because が (letter-thumb 21 200 Right 230) late nothing-compared (negsuc 9) (behind 9 (か ∷ []) (S3 Right (at 0)) ∷ []) ∷
+    (because が (letter-thumb 21 200 Right 230) late nothing-compared (negsuc 9) (ms 11 (か ∷ []) (S3 Right (at 0))) none ∷
     い-because ∷ [])) ∷
-    -- さいかい, reopening: 21 was up 20 ms after the right thumb; 30 were needed; 10 ms too early for が
+    -- さいかい, reopening: 21 was up 20 ms after the right thumb; 30 were needed: 10 ms too early for が
     why "reopening" usual
     (さい-typed ++ (down 21 200 ∷ thumb Right 230 ∷ up 21 250 ∷ thumb-up Right 280 ∷ down 18 300 ∷ tick 400 ∷ []))
     (さい-because ++
-    (because か (letter-thumb 21 200 Right 230) 21-up (overlaps 50 30 20) (pos 10) (too-early 10 (が ∷ []) S1 ∷ []) ∷
+    (because か (letter-thumb 21 200 Right 230) 21-up (overlaps 50 30 20) (pos 10) none (ms 10 (が ∷ []) S1) ∷
     い-because ∷ [])) ∷ []
 
 abbrev pub why-with-pairs : String → List Event → List Reasoned → Asked
@@ -153,21 +148,19 @@ why-with-pairs n es a = why-with (lent-with two-pairs 100 50) n usual (down 21 0
 abbrev pub asked-of-pairs : List Asked
 asked-of-pairs =
     why-with-pairs "parted by a third letter" (down 18 60 ∷ [])
-    (because か (letters 21 0 24 30) (by (CharacterDown (key 18))) (stays 30 30) (pos 70)
-    (too-early 1 (ヴ ∷ []) (letter 18 0) ∷ []) ∷ []) ∷
+    (because か (letters 21 0 24 30) (by (CharacterDown (key 18))) (stays 30 30) (pos 70) none (ms 1 (ヴ ∷ []) (letter 18 0)) ∷ []) ∷
     why-with-pairs "not parted by a third letter" (down 18 61 ∷ [])
-    (because ヴ (letters 21 0 24 30) (by (CharacterDown (key 18))) (stays 30 31) (pos 69)
-    (at-the-turn (か ∷ []) (letters 24 0 18 0) ∷ []) ∷ []) ∷
+    (because ヴ (letters 21 0 24 30) (by (CharacterDown (key 18))) (stays 30 31) (pos 69) (ms 1 (か ∷ []) (letters 24 0 18 0)) none ∷
+    []) ∷
     why-with-pairs "no short overlap" (up 21 60 ∷ [])
-    (because ヴ (letters 21 0 24 30) 21-up (overlaps-as-pair 50 100 30 30) (pos 70) (at-the-turn [] (letters-up 21 0 24 0 0) ∷ []) ∷ []) ∷
-    -- S8, due at 88: a third key turns it at 61, and back at 88
+    (because ヴ (letters 21 0 24 30) 21-up (overlaps-as-pair 50 100 30 30) (pos 70) (ms 1 [] (letters-up 21 0 24 0 0)) none ∷ []) ∷
+    -- S8, due at 88: a third key turns it at 61, and at 88 once more
     why-with-pairs "one is up, and a thumb" (up 21 59 ∷ thumb Left 80 ∷ [])
-    (because ヴ (letters-up 21 0 24 30 59) (by (ThumbDown Left)) (stays 30 50) (pos 8)
-    (behind 18 (か ∷ []) (letter-thumb 24 0 Left 0) ∷ too-early 8 (か ∷ さ ∷ []) (S3 Left (at 0)) ∷ []) ∷ []) ∷
-    why-with (lent-with two-pairs 100 50) "one is up, and the other" with-L-60
-    (down 21 0 ∷ down 24 30 ∷ up 21 59 ∷ up 24 78 ∷ [])
-    (because ヴ (letters-up 21 0 24 30 59) (by (CharacterUp (key 24))) (overlaps-of 60 29 48) (pos 10)
-    (too-early 1 (か ∷ さ ∷ []) S1 ∷ []) ∷ []) ∷ []
+    (because ヴ (letters-up 21 0 24 30 59) (by (ThumbDown Left)) (stays 30 50) (pos 8) (ms 20 (か ∷ []) (letter-thumb 24 0 Left 0))
+    (ms 8 (か ∷ さ ∷ []) (S3 Left (at 0))) ∷ []) ∷
+    why-with (lent-with two-pairs 100 50) "one is up, and the other" with-L-60 (down 21 0 ∷ down 24 30 ∷ up 21 59 ∷ up 24 78 ∷ [])
+    (because ヴ (letters-up 21 0 24 30 59) (by (CharacterUp (key 24))) (overlaps-of 60 29 48) (pos 10) none (ms 1 (か ∷ さ ∷ []) S1) ∷
+    []) ∷ []
 
 -- the reasons as the rules have them
 abbrev pub answered : Asked → Asked

@@ -1,19 +1,20 @@
 -- Why an item was committed: the state before the event, whether its line "late" or the event itself committed, what was compared, how
 -- far the deadline lay, and what the same event would have done had it come sooner or later. All of it is a view on `one-event` of
 -- document 01: no rule is said again here. The laws are in ReasonFacts.antt.
-use Prim.Native.Nat.{ℕ, _-_}
+use Prim.Native.Nat.{ℕ, _+_, _-_}
 use mathlib.Core.Bool.{Bool, true}
 use mathlib.Core.List.{List, [], map}
-use mathlib.Core.Option.{Option}
+use mathlib.Core.Option.{Option, none, some}
 use lib.IntN.{ℤ}
 use Rattle.rules.specs.Choice.{if_then_else_}
 use Rattle.rules.specs.Pairs.{Lent, lent-good}
 use Rattle.rules.specs.States.{at, lag, deadline, at-or-before, fresh}
 use Rattle.rules.specs.OneEvent.{Done, same-key, same-thumb, due-by, one-event}
-use Rattle.rules.specs.OneEvent.{second-character-takes-thumb, second-thumb-takes-character, short-overlap, pair-stays, short-pair, short-of}
+use Rattle.rules.specs.OneEvent.{second-character-takes-thumb, second-thumb-takes-character, short-overlap, pair-stays}
+use Rattle.rules.specs.OneEvent.{short-pair, short-of}
 use Rattle.rules.specs.GivenBack.{Verdict, refused, accepted, judge, Answer}
 use Rattle.rules.specs.Sequences.{along}
-use Rattle.rules.specs.Distance.{distance, distance-to}
+use Rattle.rules.specs.Distance.{distance-to}
 use Rattle.rules.specs.declared.Stamp.{Stamp}
 use Rattle.rules.specs.declared.Key.{Key}
 use Rattle.rules.specs.declared.Thumb.{Thumb}
@@ -25,7 +26,7 @@ use Rattle.rules.specs.declared.Item.{Item}
 use Rattle.rules.specs.declared.Event.{Event}
 use Rattle.rules.specs.declared.Input.{Input}
 use Rattle.rules.specs.declared.Input.the-variants.{CharacterDown, CharacterUp, ThumbDown, ThumbUp, FunctionDown, Tick}
-use Rattle.reasons.specs.Turning.{decided, turnings}
+use Rattle.reasons.specs.Turning.{decided, since, turnings, next-turn, last-turn}
 
 -- What committed: the line "late", or the event: a character, M up, K up, a thumb, O up or a function key.
 pub data Cause : Type 0 where
@@ -79,7 +80,8 @@ compared-in-S5 s now O o m Tick = nothing-compared
 -- S7, a=k-m, b=now-k
 abbrev pub compared-in-S7 : Lent → Stamp → Key → Stamp → Stamp → Input → Test
 compared-in-S7 g now M m k (CharacterDown N) = stays (lag m k) (lag k now)
-compared-in-S7 g now M m k (CharacterUp N) = if same-key N M then overlaps-as-pair (g .n) (g .t-s) (lag m k) (lag k now) else nothing-compared
+compared-in-S7 g now M m k (CharacterUp N) =
+    if same-key N M then overlaps-as-pair (g .n) (g .t-s) (lag m k) (lag k now) else nothing-compared
 compared-in-S7 g now M m k (ThumbDown P) = stays (lag m k) (lag k now)
 compared-in-S7 g now M m k (ThumbUp P) = nothing-compared
 compared-in-S7 g now M m k FunctionDown = nothing-compared
@@ -105,18 +107,21 @@ compared g s now (S6 O o M m r) i = nothing-compared
 compared g s now (S7 M m K k) i = compared-in-S7 g now M m k i
 compared g s now (S8 M m K k r) i = compared-in-S8 s now m K k r i
 
--- What would have been: how many milliseconds later the turning stamp lies (0 or negative: the event came at it or behind it), and the
--- decision on its other side.
+-- What would have been, had the event come so many milliseconds sooner, or later: another decision.
 pub record Otherwise : Type 0 where
-  pub distance : ℤ
+  pub ms : ℕ
   pub decision : Done
 
--- the nearest stamp on the other side of a turning stamp v
-abbrev pub across : Stamp → Stamp → Stamp
-across v now = if at-or-before v now then at (v .0 - 1) else v
+-- with the next turning stamp v: at v
+abbrev pub if-later : Lent → Settings → Resting → Input → Stamp → Option Stamp → Option Otherwise
+if-later g s x i now none = none
+if-later g s x i now (some v) = some (record { ms = lag now v; decision = decided g s x i v })
 
-abbrev pub otherwise : Lent → Settings → Resting → Input → Stamp → Stamp → Otherwise
-otherwise g s x i now v = record { distance = distance now v; decision = decided g s x i (across v now) }
+-- with the last turning stamp v: one millisecond before v, unless that is before the state began
+abbrev pub if-sooner : Lent → Settings → Resting → Input → Stamp → Option Stamp → Option Otherwise
+if-sooner g s x i now none = none
+if-sooner g s x i now (some v) =
+    if at-or-before v (since x) then none else some (record { ms = lag v now + 1; decision = decided g s x i (at (v .0 - 1)) })
 
 pub record Reason : Type 0 where
   -- the state before the event: its keys and stamps
@@ -125,7 +130,8 @@ pub record Reason : Type 0 where
   pub test : Test
   -- how far its deadline lay from the event (3/12)
   pub due : Option ℤ
-  pub turns : List Otherwise
+  pub sooner : Option Otherwise
+  pub later : Option Otherwise
 
 -- the line "late" compares nothing
 abbrev pub reason : Lent → Settings → Stamp → Resting → Input → Reason
@@ -136,7 +142,8 @@ reason g s now x i =
       cause = if is-late then late else by i;
       test = if is-late then nothing-compared else compared g s now x i;
       due = distance-to now (deadline g s x);
-      turns = map (otherwise g s x i now) (turnings g s x i);
+      sooner = if-sooner g s x i now (last-turn now (turnings g s x i));
+      later = if-later g s x i now (next-turn now (turnings g s x i));
     }
 
 -- A committed item with its reason.

@@ -1,14 +1,14 @@
 -- The reasons are true: they are of the items that are committed, the line that they name committed them, what they say was compared
 -- decides, and at the turning stamps, there and only there, the decision becomes another one. The proofs are in proofs/.
-use Prim.Native.Nat.{ℕ, suc, _≤_}
+use Prim.Native.Nat.{ℕ, suc, _-_, _≤_, _<_}
 use mathlib.Core.Bool.{Bool, true, false}
-use mathlib.Core.List.{List, [], map}
+use mathlib.Core.List.{List, [], _∷_, map}
 use mathlib.Core.Logic.{_≢_}
 use mathlib.Core.Option.{Option, none, some}
 use mathlib.Core.Path.{_≡_}
 use Rattle.rules.specs.Numbers.{in-range}
 use Rattle.rules.specs.Pairs.{Lent, lent-good}
-use Rattle.rules.specs.States.{deadline}
+use Rattle.rules.specs.States.{at, later, deadline}
 use Rattle.rules.specs.OneEvent.{Done, _leaving_, late as late-line, act, due-by, one-event}
 use Rattle.rules.specs.GivenBack.{input, acts-as, Answer, step}
 use Rattle.rules.specs.Sequences.{items}
@@ -22,7 +22,11 @@ use Rattle.rules.specs.declared.Event.{Event}
 use Rattle.rules.specs.declared.Input.{Input}
 use Rattle.rules.specs.declared.Input.the-variants.{Tick}
 use Rattle.reasons.specs.Turning.{unstamped, decided, since, never, turnings, passed}
-use Rattle.reasons.specs.Reason.{Cause, late, by, Test, comes-out, compared, reason, Reasoned, step-reasons, reasons}
+use Rattle.reasons.specs.Reason.{Cause, late, by, Test, comes-out, compared, Otherwise, reason, Reasoned, step-reasons, reasons}
+
+-- the stamp so many milliseconds sooner
+abbrev pub sooner : Stamp → ℕ → Stamp
+sooner t n = at (t .0 - n)
 
 abbrev pub item-of : Reasoned → Item
 item-of r = r .item
@@ -58,13 +62,40 @@ True-test =
     (g : Lent) (s : Settings) (x : Resting) (i : Input) (t u : Stamp) → due-by t (deadline g s x) ≡ false → due-by u (deadline g s x) ≡ false
     → TrueTest g s x i t u
 
+-- stamps in order, none twice
+abbrev pub Ordered : List Stamp → Type 0
+Ordered [] = Unit {0}
+Ordered (v ∷ []) = Unit {0}
+Ordered (v ∷ w ∷ vs) = (v .0 < w .0) × Ordered (w ∷ vs)
+
 -- Of a decision by the stamp: with the same turning stamps passed it is the same; with one more it is another one.
 pub record Turns (from : Stamp) (turning : List Stamp) (decides : Stamp → Done) : Type 0 where
+  pub in-order : Ordered turning
   pub same-side : (t u : Stamp) → from .0 ≤ t .0 → from .0 ≤ u .0 → passed t turning ≡ passed u turning → decides t ≡ decides u
   pub other-side : (t u : Stamp) → from .0 ≤ t .0 → from .0 ≤ u .0 → passed u turning ≡ suc (passed t turning) → decides t ≢ decides u
 
--- The statement: of a good list, settings in range, every state and every event.
+-- of a good list, settings in range, every state and every event
 abbrev pub True-turnings : Type 0
 True-turnings =
     (g : Lent) → lent-good g ≡ true → (s : Settings) → in-range s ≡ true → (x : Resting) (i : Input)
     → Turns (since x) (turnings g s x i) (decided g s x i)
+
+-- The margins are true. Of a reason's "so many milliseconds later": had the event come so much later, that would have been the decision,
+-- and it is another one; with less the same. Where there is none, however late. So with sooner, as far back as the state goes.
+pub record TrueMargins (g : Lent) (s : Settings) (now : Stamp) (x : Resting) (i : Input) : Type 0 where
+  pub later-other : (w : Otherwise) → reason g s now x i .later ≡ some w
+      → (decided g s x i (later now (w .ms)) ≡ w .decision) × (w .decision ≢ decided g s x i now)
+  pub later-same : (w : Otherwise) → reason g s now x i .later ≡ some w → (k : ℕ) → k < w .ms
+      → decided g s x i (later now k) ≡ decided g s x i now
+  pub never-later : reason g s now x i .later ≡ none → (k : ℕ) → decided g s x i (later now k) ≡ decided g s x i now
+  pub sooner-other : (w : Otherwise) → reason g s now x i .sooner ≡ some w
+      → (decided g s x i (sooner now (w .ms)) ≡ w .decision) × (w .decision ≢ decided g s x i now)
+  pub sooner-same : (w : Otherwise) → reason g s now x i .sooner ≡ some w → (k : ℕ) → k < w .ms
+      → decided g s x i (sooner now k) ≡ decided g s x i now
+  pub never-sooner : reason g s now x i .sooner ≡ none → (k : ℕ) → since x .0 ≤ sooner now k .0
+      → decided g s x i (sooner now k) ≡ decided g s x i now
+
+abbrev pub True-margins : Type 0
+True-margins =
+    (g : Lent) → lent-good g ≡ true → (s : Settings) → in-range s ≡ true → (now : Stamp) (x : Resting) (i : Input)
+    → since x .0 ≤ now .0 → TrueMargins g s now x i

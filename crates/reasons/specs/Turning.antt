@@ -170,3 +170,16 @@ turnings g s x i = turns-in g s (deadline g s x) x i
 abbrev pub passed : Stamp → List Stamp → ℕ
 passed now [] = 0
 passed now (v ∷ vs) = (if at-or-before v now then 1 else 0) + passed now vs
+
+-- of turning stamps in order: the first behind a stamp, and the last at or before it
+abbrev pub next-turn : Stamp → List Stamp → Option Stamp
+next-turn now [] = none
+next-turn now (v ∷ vs) = if at-or-before v now then next-turn now vs else some v
+
+abbrev pub or-else : Stamp → Option Stamp → Option Stamp
+or-else v none = some v
+or-else v (some w) = some w
+
+abbrev pub last-turn : Stamp → List Stamp → Option Stamp
+last-turn now [] = none
+last-turn now (v ∷ vs) = if at-or-before v now then or-else v (last-turn now vs) else none
