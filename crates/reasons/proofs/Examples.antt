@@ -3,7 +3,8 @@ use mathlib.Core.Path.{refl}
 use lib.Count.{onesIn}
 use Rattle.rules.specs.Numbers.{in-range, up, A, B, FJ, FL}
 use Rattle.rules.specs.Held.{is-held, hold, release, how-many, held-formed}
-use Rattle.rules.specs.Pairs.{same-key, names, is-of, pair-of, in-some-pair, none-twice, is-pair-character, pair-good, each-good, lent-good, GN, P, alone}
+use Rattle.rules.specs.Pairs.{same-key, names, is-of, pair-of, in-some-pair, none-twice, is-pair-character, pair-good}
+use Rattle.rules.specs.Pairs.{each-good, lent-good, GN, P, alone}
 use Rattle.rules.specs.States.{well-formed}
 use Rattle.rules.specs.OneEvent.{mark, same-thumb, second-character-takes-thumb, second-thumb-takes-character, short-overlap, pair-stays}
 use Rattle.rules.specs.OneEvent.{short-pair, short-of, settle-in, settle, one-event}

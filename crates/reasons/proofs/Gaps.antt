@@ -10,7 +10,8 @@ use borrow.Author.Tests.{lt-ltb, le-ltb, le-leb, lt-leb}
 use Rattle.rules.specs.Numbers.{up, B, FJ, FL}
 use Rattle.rules.specs.Pairs.{Lent}
 use Rattle.rules.specs.States.{lag}
-use Rattle.rules.specs.OneEvent.{second-character-takes-thumb, second-thumb-takes-character, short-overlap, pair-stays, short-pair, short-of}
+use Rattle.rules.specs.OneEvent.{second-character-takes-thumb, second-thumb-takes-character, short-overlap, pair-stays}
+use Rattle.rules.specs.OneEvent.{short-pair, short-of}
 use Rattle.rules.specs.declared.Stamp.{Stamp}
 use Rattle.rules.specs.declared.Settings.{Settings}
 use Rattle.rules.proofs.Tests.{InRange, Good}
@@ -110,15 +111,18 @@ pub short-pair-before : (g : Lent) → Good g → (a : ℕ) (k t : Stamp) → k 
     → t .0 < k .0 + g .t-s → short-pair g a (lag k t) ≡ true
 unfolding short-pair
 short-pair-before g r a k t from h i =
-    rw (lt-ltb (100 * lag k t) (g .n * (a + lag k t)) (share-short (g .n) a (lag k t) (omega arith) (omega arith)), lt-ltb (lag k t) (g .t-s) (omega arith))
+    let short = share-short (g .n) a (lag k t) (omega arith) (omega arith) in
+    rw (lt-ltb (100 * lag k t) (g .n * (a + lag k t)) short, lt-ltb (lag k t) (g .t-s) (omega arith))
 
-pub not-short-pair-from : (g : Lent) → Good g → (a : ℕ) (k t : Stamp) → k .0 + up (a * g .n) (100 - g .n) ≤ t .0 → short-pair g a (lag k t) ≡ false
+pub not-short-pair-from : (g : Lent) → Good g → (a : ℕ) (k t : Stamp) → k .0 + up (a * g .n) (100 - g .n) ≤ t .0
+    → short-pair g a (lag k t) ≡ false
 unfolding short-pair
 not-short-pair-from g r a k t h =
     rw (le-ltb (100 * lag k t) (g .n * (a + lag k t)) (share-not-short (g .n) a (lag k t) (omega arith) (omega arith)))
 
 -- S8, K up: the overlap b
-pub not-short-of-before : (s : Settings) → InRange s → (b : ℕ) (k t : Stamp) → t .0 < k .0 + ((100 * b) / s .l + 1) → short-of (s .l) b (lag k t) ≡ false
+pub not-short-of-before : (s : Settings) → InRange s → (b : ℕ) (k t : Stamp) → t .0 < k .0 + ((100 * b) / s .l + 1)
+    → short-of (s .l) b (lag k t) ≡ false
 unfolding short-of
 not-short-of-before s r b k t h = le-ltb (100 * b) (s .l * lag k t) (go (decLe (s .l * lag k t) (100 * b)))
   where
@@ -129,7 +133,8 @@ not-short-of-before s r b k t h = le-ltb (100 * b) (s .l * lag k t) (go (decLe (
         div-lt-iff-lt-mul {k = s .l} (omega arith) .1 (omega (arith, lt-of-not-le j, mul-comm (s .l) (lag k t))) in
         absurd (omega arith)
 
-pub short-of-from : (s : Settings) → InRange s → (b : ℕ) (k t : Stamp) → k .0 + ((100 * b) / s .l + 1) ≤ t .0 → short-of (s .l) b (lag k t) ≡ true
+pub short-of-from : (s : Settings) → InRange s → (b : ℕ) (k t : Stamp) → k .0 + ((100 * b) / s .l + 1) ≤ t .0
+    → short-of (s .l) b (lag k t) ≡ true
 unfolding short-of
 short-of-from s r b k t h =
     let i : 100 * b < lag k t * s .l = div-lt-iff-lt-mul {k = s .l} (omega arith) .0 (omega arith) in

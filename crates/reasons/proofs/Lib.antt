@@ -5,3 +5,4 @@ pub mod Gaps
 pub mod Turnings
 pub mod Tested
 pub mod Margins
+pub mod AtMachine

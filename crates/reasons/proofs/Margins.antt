@@ -27,7 +27,7 @@ none-is-not-some e =
     let z : _≡_ {A = ℕ} 0 1 = cc in
     omega arith
 
-some-injective : {X : Type 0} {x y : X} → some x ≡ some y → x ≡ y
+pub some-injective : {X : Type 0} {x y : X} → some x ≡ some y → x ≡ y
 some-injective e = cc
 
 -- How many of ordered stamps are passed.
@@ -59,7 +59,8 @@ next-is : (now : Stamp) (vs : List Stamp) → Ordered vs → (v : Stamp) → nex
 next-is now [] o v e = absurd (none-is-not-some e)
 next-is now (w ∷ vs) o v e = go (next-is now vs (tail w vs o) v) (leb (w .0) (now .0)) refl e
   where
-    go : (next-turn now vs ≡ some v → Next now vs v) → (b : Bool) → leb (w .0) (now .0) ≡ b → (if b then next-turn now vs else some w) ≡ some v → Next now (w ∷ vs) v
+    go : (next-turn now vs ≡ some v → Next now vs v) → (b : Bool) → leb (w .0) (now .0) ≡ b
+        → (if b then next-turn now vs else some w) ≡ some v → Next now (w ∷ vs) v
     go then-is true h e =
         let n = then-is e in
         let by-now : w .0 ≤ now .0 = leb-true (w .0) (now .0) h in
@@ -81,7 +82,8 @@ no-next : (now : Stamp) (vs : List Stamp) → next-turn now vs ≡ none → (t :
 no-next now [] e t f = refl
 no-next now (w ∷ vs) e t f = go (λ h. no-next now vs h t f) (leb (w .0) (now .0)) refl e
   where
-    go : (next-turn now vs ≡ none → passed t vs ≡ passed now vs) → (b : Bool) → leb (w .0) (now .0) ≡ b → (if b then next-turn now vs else some w) ≡ none → passed t (w ∷ vs) ≡ passed now (w ∷ vs)
+    go : (next-turn now vs ≡ none → passed t vs ≡ passed now vs) → (b : Bool) → leb (w .0) (now .0) ≡ b
+        → (if b then next-turn now vs else some w) ≡ none → passed t (w ∷ vs) ≡ passed now (w ∷ vs)
     go rest true h e =
         let by-now : w .0 ≤ now .0 = leb-true (w .0) (now .0) h in
         passes t w vs (omega arith) ∙ ap suc (rest e) ∙ sym (passes now w vs by-now)
@@ -101,6 +103,7 @@ no-last now (w ∷ vs) o e t f = go (leb (w .0) (now .0)) refl e
     not-none : (d : Option Stamp) → or-else w d ≡ none → ⊥
     not-none none e = none-is-not-some (sym e)
     not-none (some u) e = none-is-not-some (sym e)
+
     go : (b : Bool) → leb (w .0) (now .0) ≡ b → (if b then or-else w (last-turn now vs) else none) ≡ none
         → passed t (w ∷ vs) ≡ passed now (w ∷ vs)
     go true h e = absurd (not-none (last-turn now vs) e)
@@ -112,7 +115,8 @@ last-is : (now : Stamp) (vs : List Stamp) → Ordered vs → (v : Stamp) → las
 last-is now [] o v e = absurd (none-is-not-some e)
 last-is now (w ∷ vs) o v e = go (last-is now vs (tail w vs o) v) (leb (w .0) (now .0)) refl e
   where
-    on-last : (last-turn now vs ≡ some v → Last now vs v) → w .0 ≤ now .0 → (d : Option Stamp) → last-turn now vs ≡ d → or-else w d ≡ some v → Last now (w ∷ vs) v
+    on-last : (last-turn now vs ≡ some v → Last now vs v) → w .0 ≤ now .0 → (d : Option Stamp)
+        → last-turn now vs ≡ d → or-else w d ≡ some v → Last now (w ∷ vs) v
     on-last rest by-now none h e =
         subst (Last now (w ∷ vs)) (some-injective e)
         (record {
@@ -132,6 +136,7 @@ last-is now (w ∷ vs) o v e = go (last-is now vs (tail w vs o) v) (leb (w .0) (
           still = λ t b f. passes t w vs (omega arith) ∙ ap suc (l .still t b f) ∙ sym (passes now w vs by-now);
           one-less = λ t b. passes now w vs by-now ∙ ap suc (l .one-less t b ∙ sym (passes t w vs (omega arith)));
         }
+
     go : (last-turn now vs ≡ some v → Last now vs v) → (b : Bool) → leb (w .0) (now .0) ≡ b
         → (if b then or-else w (last-turn now vs) else none) ≡ some v → Last now (w ∷ vs) v
     go rest true h e = on-last rest (leb-true (w .0) (now .0) h) (last-turn now vs) refl e
@@ -186,17 +191,19 @@ module _ (g : Lent) (s : Settings) (now : Stamp) (x : Resting) (i : Input) (from
     where
       l : Last now vs v
       l = last-is now vs (r .in-order) v e
+
       begun : at-or-before v (since x) ≡ true → Sooner none
       begun h =
           let b : v .0 ≤ since x .0 = leb-true (v .0) (since x .0) h in
           if-none (λ k f. r .same-side (sooner now k) now f from (l .still (sooner now k) (omega arith) (omega arith)))
+
       within : at-or-before v (since x) ≡ false
           → Sooner (some (record { ms = lag v now + 1; decision = decided g s x i (at (v .0 - 1)) }))
       within h =
           let b : since x .0 < v .0 = leb-false (v .0) (since x .0) h in
           let there : sooner now (lag v now + 1) ≡ at (v .0 - 1) = ap at (omega (arith, l .by-now)) in
           let turned : d (at (v .0 - 1)) ≢ d now =
-              r .other-side (at (v .0 - 1)) now (omega arith) from (l .one-less (at (v .0 - 1)) (omega arith)) in
+          r .other-side (at (v .0 - 1)) now (omega arith) from (l .one-less (at (v .0 - 1)) (omega arith)) in
           record {
             other = λ w f. subst (λ (y : Otherwise). (d (sooner now (y .ms)) ≡ y .decision) × (y .decision ≢ d now)) (some-injective f)
                 (ap d there, turned);

@@ -7,7 +7,8 @@ use mathlib.Core.Path.{_≡_, refl, sym, ap, _∙_}
 use Rattle.rules.specs.Pairs.{Lent, is-pair, same-key}
 use Rattle.rules.specs.States.{at, lag}
 use Rattle.rules.specs.OneEvent.{Done, _leaving_, nothing, plain, chord, together, mark, same-thumb, act}
-use Rattle.rules.specs.OneEvent.{second-character-takes-thumb, second-thumb-takes-character, short-overlap, pair-stays, short-pair, short-of}
+use Rattle.rules.specs.OneEvent.{second-character-takes-thumb, second-thumb-takes-character, short-overlap, pair-stays}
+use Rattle.rules.specs.OneEvent.{short-pair, short-of}
 use Rattle.rules.specs.declared.Stamp.{Stamp}
 use Rattle.rules.specs.declared.Settings.{Settings}
 use Rattle.rules.specs.declared.Resting.{Resting}
@@ -109,7 +110,8 @@ module _ (g : Lent) (s : Settings) where
       (λ h. untested (nothing leaving S5 O (at 0) M (at 0)) (λ t. rw h) (λ t. refl))
   in-S5 O o M m (ThumbDown P) =
       either (same-thumb P O) (λ h. untested (nothing leaving S5 O (at 0) M (at 0)) (λ t. rw h) (λ t. rw h))
-      (λ h. tested (λ t. second-thumb-takes-character (lag o m) (lag m t)) (mark s O leaving S4 M (at 0) P (at 0)) (chord M O leaving S3 P (at 0))
+      (λ h. tested (λ t. second-thumb-takes-character (lag o m) (lag m t)) (mark s O leaving S4 M (at 0) P (at 0))
+      (chord M O leaving S3 P (at 0))
       (λ t. rw h) (λ t e. rw (h, e)) (λ t e. rw (h, e)) (leave-another _ _ refl))
   in-S5 O o M m (ThumbUp P) =
       either (same-thumb P O)

@@ -26,11 +26,14 @@ use Rattle.rules.specs.declared.Input.the-variants.{CharacterDown, CharacterUp,
 use Rattle.rules.proofs.Choices.{by-test, either}
 use Rattle.rules.proofs.Late.{late-and-event}
 use Rattle.rules.proofs.Tests.{InRange, range-bounds, Good, good-bounds}
-use Rattle.reasons.specs.Turning.{unstamped, decision, decided, since, turnings, turns-in, at-and-late, parts-before, short-before, share-before}
+use Rattle.reasons.specs.Turning.{unstamped, decision, decided, since, turnings, turns-in, at-and-late, parts-before}
+use Rattle.reasons.specs.Turning.{short-before, share-before}
 use Rattle.reasons.specs.ReasonFacts.{Turns, True-turnings}
 use Rattle.reasons.proofs.Items.{when-late, when-in-time}
-use Rattle.reasons.proofs.Sides.{leave-another, commit-another, same-always, turns-once, turns-twice}
-use Rattle.reasons.proofs.Gaps.{takes-thumb-before, takes-thumb-from, takes-character-before, takes-character-from, parted-before, stays-from, not-short-from, short-before-J, short-before-L, short-pair-before, not-short-pair-from, not-short-of-before, short-of-from}
+use Rattle.reasons.proofs.Sides.{number, leave-another, commit-another, same-always, turns-once, turns-twice}
+use Rattle.reasons.proofs.Gaps.{takes-thumb-before, takes-thumb-from, takes-character-before, takes-character-from}
+use Rattle.reasons.proofs.Gaps.{parted-before, stays-from, not-short-from, short-before-J, short-before-L}
+use Rattle.reasons.proofs.Gaps.{short-pair-before, not-short-pair-from, not-short-of-before, short-of-from}
 
 -- what rests where an event acts on S1
 abbrev newly : Input → Resting
@@ -80,9 +83,15 @@ module _ (g : Lent) (s : Settings) (x : Resting) (i : Input) where
         (λ t _. either (due-by t (deadline g s x)) (decided-late t) (λ e. decided-in-time t e ∙ h t))
 
     -- the deadline turns it
-    by-deadline : (p : Done) → ((t : Stamp) → decision (act g s t x i) ≡ p) → p ≢ overdue g s x i → Turns (since x) (d ∷ []) (decided g s x i)
+    by-deadline : (p : Done) → ((t : Stamp) → decision (act g s t x i) ≡ p) → p ≢ overdue g s x i
+        → Turns (since x) (d ∷ []) (decided g s x i)
     by-deadline p h differ =
         turns-once (since x) (decided g s x i) d p (overdue g s x i) (λ t _ b. in-time t b ∙ h t) (λ t _ b. is-late t b) differ
+
+    -- the event changes nothing
+    unmoved : ((t : Stamp) → act g s t x i ≡ (nothing leaving x)) → eqb (number (unstamped x)) (number (newly i)) ≡ false
+        → Turns (since x) (d ∷ []) (decided g s x i)
+    unmoved h differ = by-deadline (nothing leaving unstamped x) (λ t. ap decision (h t)) (leave-another _ _ differ)
 
     -- the stamp v turns it, or the deadline where that is sooner
     by-stamp : (v : Stamp) (p : Done)
@@ -152,13 +161,13 @@ module _ (g : Lent) (s : Settings) where
     turns-S2 (CharacterUp N) =
         by-cases (same-key N M)
         (λ h. as-late g s (S2 M m) (CharacterUp N) _ refl (λ t. rw h))
-        (λ h. by-deadline g s (S2 M m) (CharacterUp N) _ refl (nothing leaving S2 M (at 0)) (λ t. rw h) (leave-another _ _ refl))
+        (λ h. unmoved g s (S2 M m) (CharacterUp N) _ refl (λ t. rw h) refl)
     turns-S2 (ThumbDown P) =
         by-deadline g s (S2 M m) (ThumbDown P) _ refl (nothing leaving S4 M (at 0) P (at 0)) (λ t. refl) (leave-another _ _ refl)
     turns-S2 (ThumbUp P) =
-        by-deadline g s (S2 M m) (ThumbUp P) _ refl (nothing leaving S2 M (at 0)) (λ t. refl) (leave-another _ _ refl)
+        unmoved g s (S2 M m) (ThumbUp P) _ refl (λ t. refl) refl
     turns-S2 FunctionDown = as-late g s (S2 M m) FunctionDown _ refl (λ t. refl)
-    turns-S2 Tick = by-deadline g s (S2 M m) Tick _ refl (nothing leaving S2 M (at 0)) (λ t. refl) (leave-another _ _ refl)
+    turns-S2 Tick = unmoved g s (S2 M m) Tick _ refl (λ t. refl) refl
 
   module _ (O : Thumb) (o : Stamp) where
     -- no thumb is late with solo 0
@@ -182,7 +191,7 @@ module _ (g : Lent) (s : Settings) where
     turns-S3-marked (CharacterDown N) d y e =
         by-deadline g s (S3 O o) (CharacterDown N) d e (nothing leaving S5 O (at 0) N (at 0)) (λ t. refl) (leave-another _ _ refl)
     turns-S3-marked (CharacterUp N) d y e =
-        by-deadline g s (S3 O o) (CharacterUp N) d e (nothing leaving S3 O (at 0)) (λ t. refl) (leave-another _ _ refl)
+        unmoved g s (S3 O o) (CharacterUp N) d e (λ t. refl) refl
     turns-S3-marked (ThumbDown P) d y e =
         by-cases (same-thumb P O)
         (λ h. by-deadline g s (S3 O o) (ThumbDown P) d e (nothing leaving S3 O (at 0)) (λ t. rw h) (commit-another _ _ (rw y)))
@@ -190,9 +199,9 @@ module _ (g : Lent) (s : Settings) where
     turns-S3-marked (ThumbUp P) d y e =
         by-cases (same-thumb P O)
         (λ h. as-late g s (S3 O o) (ThumbUp P) d e (λ t. rw h))
-        (λ h. by-deadline g s (S3 O o) (ThumbUp P) d e (nothing leaving S3 O (at 0)) (λ t. rw h) (leave-another _ _ refl))
+        (λ h. unmoved g s (S3 O o) (ThumbUp P) d e (λ t. rw h) refl)
     turns-S3-marked FunctionDown d y e = as-late g s (S3 O o) FunctionDown d e (λ t. refl)
-    turns-S3-marked Tick d y e = by-deadline g s (S3 O o) Tick d e (nothing leaving S3 O (at 0)) (λ t. refl) (leave-another _ _ refl)
+    turns-S3-marked Tick d y e = unmoved g s (S3 O o) Tick d e (λ t. refl) refl
 
     turns-S3 : (i : Input) → Turns o (turnings g s (S3 O o) i) (decided g s (S3 O o) i)
     turns-S3 i = go (eqb (s .solo) 1) refl
@@ -218,17 +227,17 @@ module _ (g : Lent) (s : Settings) where
         (λ t f b d. rw (h, short-before-J s r (lag m o) o t f b d))
         (λ t f b. rw (h, not-short-from (s .j) (lag m o) o t b))
         (leave-another _ _ refl))
-        (λ h. by-deadline g s (S4 M m O o) (CharacterUp N) _ refl (nothing leaving S4 M (at 0) O (at 0)) (λ t. rw h) (leave-another _ _ refl))
+        (λ h. unmoved g s (S4 M m O o) (CharacterUp N) _ refl (λ t. rw h) refl)
     turns-S4 (ThumbDown P) =
         by-cases (same-thumb P O)
-        (λ h. by-deadline g s (S4 M m O o) (ThumbDown P) _ refl (nothing leaving S4 M (at 0) O (at 0)) (λ t. rw h) (leave-another _ _ refl))
+        (λ h. unmoved g s (S4 M m O o) (ThumbDown P) _ refl (λ t. rw h) refl)
         (λ h. as-late g s (S4 M m O o) (ThumbDown P) _ refl (λ t. rw h))
     turns-S4 (ThumbUp P) =
         by-cases (same-thumb P O)
         (λ h. as-late g s (S4 M m O o) (ThumbUp P) _ refl (λ t. rw h))
-        (λ h. by-deadline g s (S4 M m O o) (ThumbUp P) _ refl (nothing leaving S4 M (at 0) O (at 0)) (λ t. rw h) (leave-another _ _ refl))
+        (λ h. unmoved g s (S4 M m O o) (ThumbUp P) _ refl (λ t. rw h) refl)
     turns-S4 FunctionDown = as-late g s (S4 M m O o) FunctionDown _ refl (λ t. refl)
-    turns-S4 Tick = by-deadline g s (S4 M m O o) Tick _ refl (nothing leaving S4 M (at 0) O (at 0)) (λ t. refl) (leave-another _ _ refl)
+    turns-S4 Tick = unmoved g s (S4 M m O o) Tick _ refl (λ t. refl) refl
 
   module _ (r : InRange s) (O : Thumb) (o : Stamp) (M : Key) (m : Stamp) where
     abbrev in-S5 : Input → Type 0
@@ -239,10 +248,10 @@ module _ (g : Lent) (s : Settings) where
     turns-S5 (CharacterUp N) =
         by-cases (same-key N M)
         (λ h. as-late g s (S5 O o M m) (CharacterUp N) _ refl (λ t. rw h))
-        (λ h. by-deadline g s (S5 O o M m) (CharacterUp N) _ refl (nothing leaving S5 O (at 0) M (at 0)) (λ t. rw h) (leave-another _ _ refl))
+        (λ h. unmoved g s (S5 O o M m) (CharacterUp N) _ refl (λ t. rw h) refl)
     turns-S5 (ThumbDown P) =
         by-cases (same-thumb P O)
-        (λ h. by-deadline g s (S5 O o M m) (ThumbDown P) _ refl (nothing leaving S5 O (at 0) M (at 0)) (λ t. rw h) (leave-another _ _ refl))
+        (λ h. unmoved g s (S5 O o M m) (ThumbDown P) _ refl (λ t. rw h) refl)
         (λ h. by-stamp g s (S5 O o M m) (ThumbDown P) _ refl (later m (lag o m + 1)) (mark s O leaving S4 M (at 0) P (at 0))
         (λ t f b _. rw (h, takes-character-before (lag o m) m t b))
         (λ t f b. rw (h, takes-character-from (lag o m) m t b))
@@ -253,9 +262,9 @@ module _ (g : Lent) (s : Settings) where
         (λ t f b d. rw (h, short-before-L s r (lag o m) m t f b d))
         (λ t f b. rw (h, not-short-from (s .l) (lag o m) m t b))
         (leave-another _ _ refl))
-        (λ h. by-deadline g s (S5 O o M m) (ThumbUp P) _ refl (nothing leaving S5 O (at 0) M (at 0)) (λ t. rw h) (leave-another _ _ refl))
+        (λ h. unmoved g s (S5 O o M m) (ThumbUp P) _ refl (λ t. rw h) refl)
     turns-S5 FunctionDown = as-late g s (S5 O o M m) FunctionDown _ refl (λ t. refl)
-    turns-S5 Tick = by-deadline g s (S5 O o M m) Tick _ refl (nothing leaving S5 O (at 0) M (at 0)) (λ t. refl) (leave-another _ _ refl)
+    turns-S5 Tick = unmoved g s (S5 O o M m) Tick _ refl (λ t. refl) refl
 
   module _ (O : Thumb) (o : Stamp) (M : Key) (m r : Stamp) where
     abbrev S6-rests : Resting
@@ -276,13 +285,13 @@ module _ (g : Lent) (s : Settings) where
     turns-S6 (CharacterUp N) =
         either (same-key N M)
         (λ h. by-deadline g s S6-rests (CharacterUp N) _ refl (chord M O leaving S1) (λ t. rw h) (chord-not-late S1))
-        (λ h. by-deadline g s S6-rests (CharacterUp N) _ refl (nothing leaving S6 O (at 0) M (at 0) (at 0)) (λ t. rw h) (leave-another _ _ refl))
+        (λ h. unmoved g s S6-rests (CharacterUp N) _ refl (λ t. rw h) refl)
     turns-S6 (ThumbDown P) =
         by-deadline g s S6-rests (ThumbDown P) _ refl (chord M O leaving S3 P (at 0)) (λ t. refl) (chord-not-late (S3 P (at 0)))
     turns-S6 (ThumbUp P) =
-        by-deadline g s S6-rests (ThumbUp P) _ refl (nothing leaving S6 O (at 0) M (at 0) (at 0)) (λ t. refl) (leave-another _ _ refl)
+        unmoved g s S6-rests (ThumbUp P) _ refl (λ t. refl) refl
     turns-S6 FunctionDown = as-late g s S6-rests FunctionDown _ refl (λ t. refl)
-    turns-S6 Tick = by-deadline g s S6-rests Tick _ refl (nothing leaving S6 O (at 0) M (at 0) (at 0)) (λ t. refl) (leave-another _ _ refl)
+    turns-S6 Tick = unmoved g s S6-rests Tick _ refl (λ t. refl) refl
 
   module _ (l : Good g) (M : Key) (m : Stamp) (K : Key) (k : Stamp) where
     abbrev S7-rests : Resting
@@ -307,16 +316,16 @@ module _ (g : Lent) (s : Settings) where
         (leave-another _ _ refl))
         (λ h. by-cases (same-key N K)
         (λ j. as-late g s S7-rests (CharacterUp N) _ refl (λ t. rw (h, j)))
-        (λ j. by-deadline g s S7-rests (CharacterUp N) _ refl (nothing leaving S7 M (at 0) K (at 0)) (λ t. rw (h, j)) (leave-another _ _ refl)))
+        (λ j. unmoved g s S7-rests (CharacterUp N) _ refl (λ t. rw (h, j)) refl))
     turns-S7 (ThumbDown P) =
         by-stamp g s S7-rests (ThumbDown P) _ refl (parts-before m k) (plain M leaving S4 K (at 0) P (at 0))
         (λ t f b _. rw (parted-before (lag m k) k t b))
         (λ t f b. rw (stays-from (lag m k) k t b))
         (leave-another _ _ refl)
     turns-S7 (ThumbUp P) =
-        by-deadline g s S7-rests (ThumbUp P) _ refl (nothing leaving S7 M (at 0) K (at 0)) (λ t. refl) (leave-another _ _ refl)
+        unmoved g s S7-rests (ThumbUp P) _ refl (λ t. refl) refl
     turns-S7 FunctionDown = as-late g s S7-rests FunctionDown _ refl (λ t. refl)
-    turns-S7 Tick = by-deadline g s S7-rests Tick _ refl (nothing leaving S7 M (at 0) K (at 0)) (λ t. refl) (leave-another _ _ refl)
+    turns-S7 Tick = unmoved g s S7-rests Tick _ refl (λ t. refl) refl
 
   module _ (r : InRange s) (M : Key) (m : Stamp) (K : Key) (k r-up : Stamp) where
     abbrev S8-rests : Resting
@@ -372,18 +381,20 @@ module _ (g : Lent) (s : Settings) where
         (λ t f b d. rw (h, not-short-of-before s r (lag k r-up) k t b))
         (λ t f b. rw (h, short-of-from s r (lag k r-up) k t b))
         (commit-another _ _ refl))
-        (λ h. by-deadline g s S8-rests (CharacterUp N) _ refl (nothing leaving S8 M (at 0) K (at 0) (at 0)) (λ t. rw h) (leave-another _ _ refl))
+        (λ h. unmoved g s S8-rests (CharacterUp N) _ refl (λ t. rw h) refl)
     turns-S8 (ThumbDown P) =
-        by-both g s S8-rests (ThumbDown P) _ refl (parts-before m k) (plain M leaving S4 K (at 0) P (at 0)) (together g M K leaving S3 P (at 0)) _
+        by-both g s S8-rests (ThumbDown P) _ refl (parts-before m k) (plain M leaving S4 K (at 0) P (at 0))
+        (together g M K leaving S3 P (at 0)) _
         (λ t b. rw (parted-before (lag m k) k t b))
         (λ t b. rw (stays-from (lag m k) k t b))
         (leave-another _ _ refl) (commit-another _ _ refl)
-        (λ h. late-first (ThumbDown P) _ (plain M leaving S4 K (at 0) P (at 0)) refl h (λ t b. rw (parted-before (lag m k) k t b)) (leave-another _ _ refl))
+        (λ h. late-first (ThumbDown P) _ (plain M leaving S4 K (at 0) P (at 0)) refl h (λ t b. rw (parted-before (lag m k) k t b))
+        (leave-another _ _ refl))
     turns-S8 (ThumbUp P) =
-        by-deadline g s S8-rests (ThumbUp P) _ refl (nothing leaving S8 M (at 0) K (at 0) (at 0)) (λ t. refl) (leave-another _ _ refl)
+        unmoved g s S8-rests (ThumbUp P) _ refl (λ t. refl) refl
     turns-S8 FunctionDown = by-deadline g s S8-rests FunctionDown _ refl (together g M K leaving S1) (λ t. refl) (commit-another _ _ refl)
     turns-S8 Tick =
-        by-deadline g s S8-rests Tick _ refl (nothing leaving S8 M (at 0) K (at 0) (at 0)) (λ t. refl) (leave-another _ _ refl)
+        unmoved g s S8-rests Tick _ refl (λ t. refl) refl
 
 pub true-turnings : True-turnings
 true-turnings g good s in-r S1 i = turns-S1 g s i

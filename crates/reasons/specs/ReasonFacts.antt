@@ -10,7 +10,7 @@ use Rattle.rules.specs.Numbers.{in-range}
 use Rattle.rules.specs.Pairs.{Lent, lent-good}
 use Rattle.rules.specs.States.{at, later, deadline}
 use Rattle.rules.specs.OneEvent.{Done, _leaving_, late as late-line, act, due-by, one-event}
-use Rattle.rules.specs.GivenBack.{input, acts-as, Answer, step}
+use Rattle.rules.specs.GivenBack.{input, acts-as, accepted, judge, Answer, step}
 use Rattle.rules.specs.Sequences.{items}
 use Rattle.rules.specs.declared.Stamp.{Stamp}
 use Rattle.rules.specs.declared.Key.{Key}
@@ -22,7 +22,8 @@ use Rattle.rules.specs.declared.Event.{Event}
 use Rattle.rules.specs.declared.Input.{Input}
 use Rattle.rules.specs.declared.Input.the-variants.{Tick}
 use Rattle.reasons.specs.Turning.{unstamped, decided, since, never, turnings, passed}
-use Rattle.reasons.specs.Reason.{Cause, late, by, Test, comes-out, compared, Otherwise, reason, Reasoned, step-reasons, reasons}
+use Rattle.reasons.specs.Reason.{Cause, late, by, Test, comes-out, compared, Otherwise, reason, Reasoned, reasoned, step-reasons}
+use Rattle.reasons.specs.Reason.{reasons}
 
 -- the stamp so many milliseconds sooner
 abbrev pub sooner : Stamp → ℕ → Stamp
@@ -59,7 +60,8 @@ pub record TrueTest (g : Lent) (s : Settings) (x : Resting) (i : Input) (t u : S
 
 abbrev pub True-test : Type 0
 True-test =
-    (g : Lent) (s : Settings) (x : Resting) (i : Input) (t u : Stamp) → due-by t (deadline g s x) ≡ false → due-by u (deadline g s x) ≡ false
+    (g : Lent) (s : Settings) (x : Resting) (i : Input) (t u : Stamp) → due-by t (deadline g s x) ≡ false
+    → due-by u (deadline g s x) ≡ false
     → TrueTest g s x i t u
 
 -- stamps in order, none twice
@@ -99,3 +101,42 @@ abbrev pub True-margins : Type 0
 True-margins =
     (g : Lent) → lent-good g ≡ true → (s : Settings) → in-range s ≡ true → (now : Stamp) (x : Resting) (i : Input)
     → since x .0 ≤ now .0 → TrueMargins g s now x i
+
+-- Of an accepted event at a machine: its reasons, and that they are true.
+pub record TrueReasons (g : Lent) (m : Machine) (e : Event) : Type 0 where
+  -- what it acts as
+  pub acts : Input
+  pub is-accepted : judge g m e ≡ accepted acts
+  pub its-reasons : step-reasons g m e ≡ reasoned g (m .settings) (e .stamp) (m .resting) acts
+  pub its-items : SameItems g m e
+  pub its-cause : TrueCause g (m .settings) (e .stamp) (m .resting) acts
+  pub its-margins : TrueMargins g (m .settings) (e .stamp) (m .resting) acts
+
+abbrev pub True-reasons : Type 0
+True-reasons = (g : Lent) (m : Machine) (e : Event) → step g m e .number ≡ 0 → TrueReasons g m e
+
+-- The turning stamps at a machine, by an event's kind and key: events of the same kind and key that it accepts, at two stamps t and u.
+abbrev pub turnings-if : Lent → Machine → Option Input → List Stamp
+turnings-if g m none = never
+turnings-if g m (some i) = turnings g (m .settings) (m .resting) (acts-as (m .held) i)
+
+abbrev pub turnings-of : Lent → Machine → ℕ → Key → List Stamp
+turnings-of g m kind k = turnings-if g m (input kind k)
+
+abbrev pub event-at : ℕ → Key → Stamp → Event
+event-at kind k t = record { kind = kind; key = k; stamp = t }
+
+-- what an answer commits, and what rests then
+abbrev pub decision-of : Answer → Done
+decision-of a = a .items leaving unstamped (a .machine .resting)
+
+pub record TurnsAt (g : Lent) (m : Machine) (kind : ℕ) (k : Key) (t u : Stamp) : Type 0 where
+  pub same-side : passed t (turnings-of g m kind k) ≡ passed u (turnings-of g m kind k)
+      → decision-of (step g m (event-at kind k t)) ≡ decision-of (step g m (event-at kind k u))
+  pub other-side : passed u (turnings-of g m kind k) ≡ suc (passed t (turnings-of g m kind k))
+      → decision-of (step g m (event-at kind k t)) ≢ decision-of (step g m (event-at kind k u))
+
+abbrev pub Turns-at-machine : Type 0
+Turns-at-machine =
+    (g : Lent) (m : Machine) (kind : ℕ) (k : Key) (t u : Stamp) → step g m (event-at kind k t) .number ≡ 0
+    → step g m (event-at kind k u) .number ≡ 0 → TurnsAt g m kind k t u
