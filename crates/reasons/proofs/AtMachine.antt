@@ -1,8 +1,7 @@
 -- The laws at a machine, for the events that it accepts.
-use Prim.Native.Nat.{ℕ, suc, _≤_}
+use Prim.Native.Nat.{_≤_}
 use native.Mathlib.Omega.{arith}
 use mathlib.Core.Bool.{Bool, true, false, _&&_, and-eq-true-iff}
-use mathlib.Core.List.{[]}
 use mathlib.Core.Option.{some}
 use mathlib.Core.Path.{_≡_, refl, sym, ap, _∙_}
 use borrow.Author.Tests.{leb-true}
@@ -11,20 +10,18 @@ use Rattle.rules.specs.Numbers.{largest-stamp, in-range}
 use Rattle.rules.specs.Held.{held-formed}
 use Rattle.rules.specs.Pairs.{Lent, lent-good}
 use Rattle.rules.specs.States.{at, keys-below, at-or-before, stamps-by, in-order, pair-lent, well-formed}
-use Rattle.rules.specs.GivenBack.{input, acts-as, Verdict, accepted, judge, Answer, refusal, answer, step-with, step}
+use Rattle.rules.specs.GivenBack.{input, acts-as, accepted, judge, refusal, answer, step-with, step}
 use Rattle.rules.specs.declared.Stamp.{Stamp}
-use Rattle.rules.specs.declared.Key.{Key}
 use Rattle.rules.specs.declared.Resting.{Resting}
 use Rattle.rules.specs.declared.Resting.the-variants.{S1, S2, S3, S4, S5, S6, S7, S8}
 use Rattle.rules.specs.declared.Machine.{Machine}
 use Rattle.rules.specs.declared.Event.{Event}
 use Rattle.rules.specs.declared.Input.{Input}
-use Rattle.rules.proofs.Choices.{either}
 use Rattle.rules.proofs.Steps.{Accepted, taken, judge-cases}
 use Rattle.rules.proofs.Ticks.{not-0}
-use Rattle.reasons.specs.Turning.{decided, since, passed, turnings}
-use Rattle.reasons.specs.Reason.{reasoned-if, step-reasons}
-use Rattle.reasons.specs.ReasonFacts.{True-reasons, turnings-if, turnings-of, event-at, decision-of, TurnsAt, Turns-at-machine}
+use Rattle.reasons.specs.Turning.{decided, since}
+use Rattle.reasons.specs.Reason.{step-reasons}
+use Rattle.reasons.specs.ReasonFacts.{True-reasons, event-at, decision-of, Turns-at-machine}
 use Rattle.reasons.proofs.Items.{same-items, true-cause}
 use Rattle.reasons.proofs.Turnings.{true-turnings}
 use Rattle.reasons.proofs.Margins.{some-injective, true-margins}

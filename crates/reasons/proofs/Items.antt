@@ -1,12 +1,12 @@
 -- The reasons' items are the items that are committed, and the line that a cause names commits them.
 use mathlib.Core.Bool.{Bool, true, false}
-use mathlib.Core.List.{List, [], _∷_, _++_, map, append-nil}
-use mathlib.Core.Path.{_≡_, refl, sym, ap, _∙_}
+use mathlib.Core.List.{List, [], _∷_, _++_, map}
+use mathlib.Core.Path.{_≡_, refl, ap, _∙_}
 use Rattle.rules.specs.Choice.{if_then_else_}
 use Rattle.rules.specs.Pairs.{Lent, lent-good}
 use Rattle.rules.specs.States.{deadline, fresh}
 use Rattle.rules.specs.OneEvent.{Done, late as late-line, act, due-by, one-event, and-then}
-use Rattle.rules.specs.GivenBack.{Verdict, refused, accepted, judge, Answer, refusal, answer, step-with, step}
+use Rattle.rules.specs.GivenBack.{Verdict, refused, accepted, judge, refusal, answer, step-with, step}
 use Rattle.rules.specs.Sequences.{along, items-in}
 use Rattle.rules.specs.declared.Stamp.{Stamp}
 use Rattle.rules.specs.declared.Settings.{Settings}
@@ -19,7 +19,7 @@ use Rattle.rules.specs.declared.Input.{Input}
 use Rattle.rules.specs.declared.Input.the-variants.{Tick}
 use Rattle.rules.proofs.Late.{late-and-event}
 use Rattle.rules.proofs.Ticks.{settle-due, settle-not-due}
-use Rattle.reasons.specs.Reason.{Cause, late, by, Reason, Reasoned, with-reason, reasoned-if, step-reasons, reasons-in}
+use Rattle.reasons.specs.Reason.{late, by, Reason, Reasoned, with-reason, reasoned-if, step-reasons, reasons-in}
 use Rattle.reasons.specs.ReasonFacts.{item-of, SameItems, SameItemsAlong, commits, TrueCause}
 
 items-with : (r : Reason) (l : List Item) → map item-of (map (with-reason r) l) ≡ l

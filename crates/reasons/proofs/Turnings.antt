@@ -1,18 +1,18 @@
 -- At its turning stamps, and only there, a decision becomes another one: state by state, event by event.
-use Prim.Native.Nat.{ℕ, suc, _+_, _*_, _-_, _/_, _≤_, _<_, min}
+use Prim.Native.Nat.{suc, _+_, _-_, _≤_, _<_, min}
 use native.Mathlib.Nat.{min-le-left, min-le-right, le-min, lt-of-not-le}
 use native.Mathlib.Decide.{decLe}
 use native.Mathlib.Omega.{arith}
 use mathlib.Core.Bool.{Bool, true, false}
 use mathlib.Core.List.{List, [], _∷_, _++_}
 use mathlib.Core.Logic.{_≢_}
-use mathlib.Core.Option.{Option, none, some}
+use mathlib.Core.Option.{none, some}
 use mathlib.Core.Path.{_≡_, refl, ap, _∙_}
 use lib.Dec.{ltb, leb, eqb}
 use borrow.Author.Tests.{le-leb, lt-leb, leb-true, leb-false, ltb-true, ltb-false}
 use Rattle.rules.specs.Choice.{if_then_else_}
-use Rattle.rules.specs.Numbers.{short-overlap-time, in-range, up, B, FJ, FL}
-use Rattle.rules.specs.Pairs.{Lent, lent-good, is-pair, same-key, alone, GN}
+use Rattle.rules.specs.Numbers.{short-overlap-time, B}
+use Rattle.rules.specs.Pairs.{Lent, is-pair, same-key, GN}
 use Rattle.rules.specs.States.{at, lag, later, deadline}
 use Rattle.rules.specs.OneEvent.{Done, _leaving_, nothing, plain, chord, together, mark, same-thumb, late as late-line, act, due-by}
 use Rattle.rules.specs.declared.Stamp.{Stamp}
@@ -310,7 +310,7 @@ module _ (g : Lent) (s : Settings) where
         (commit-another _ _ refl))
     turns-S7 (CharacterUp N) =
         by-cases (same-key N M)
-        (λ h. by-stamp g s S7-rests (CharacterUp N) _ refl (short-before g m k) (nothing leaving S8 M (at 0) K (at 0) (at 0))
+        (λ h. by-stamp g s S7-rests (CharacterUp N) _ refl (short-before (g .n) m k) (nothing leaving S8 M (at 0) K (at 0) (at 0))
         (λ t f b d. rw (h, short-pair-before g l (lag m k) k t f b d))
         (λ t f b. rw (h, not-short-pair-from g l (lag m k) k t b))
         (leave-another _ _ refl))
@@ -377,7 +377,7 @@ module _ (g : Lent) (s : Settings) where
             (λ j. parted-anyway (CharacterDown N) d-S8 refl j (λ t b. rw (parted-before (lag m k) k t b, h)))
     turns-S8 (CharacterUp N) =
         by-cases (same-key N K)
-        (λ h. by-stamp g s S8-rests (CharacterUp N) _ refl (share-before s k r-up) (together g M K leaving S1)
+        (λ h. by-stamp g s S8-rests (CharacterUp N) _ refl (share-before (s .l) k r-up) (together g M K leaving S1)
         (λ t f b d. rw (h, not-short-of-before s r (lag k r-up) k t b))
         (λ t f b. rw (h, short-of-from s r (lag k r-up) k t b))
         (commit-another _ _ refl))

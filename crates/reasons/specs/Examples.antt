@@ -9,18 +9,17 @@ use lib.IntN.{ℤ, pos, negsuc}
 use Rattle.rules.specs.LayoutFacts.{key}
 use Rattle.rules.specs.Pairs.{Lent, no-pairs}
 use Rattle.rules.specs.States.{at}
-use Rattle.rules.specs.OneEvent.{Done, _leaving_}
+use Rattle.rules.specs.OneEvent.{_leaving_}
 use Rattle.rules.specs.Examples.{an-event, thumb-key, usual, with-solo, with-J-60, with-L-60, slow, lent-with, two-pairs}
 use Rattle.rules.specs.Examples.{か, え, が, さ, ざ, い, ヴ, right-mark}
 use Rattle.rules.specs.declared.Thumb.{Thumb}
 use Rattle.rules.specs.declared.Thumb.the-variants.{Left, Right}
 use Rattle.rules.specs.declared.Settings.{Settings}
 use Rattle.rules.specs.declared.Resting.{Resting}
-use Rattle.rules.specs.declared.Resting.the-variants.{S1, S2, S3, S4, S5, S6, S7, S8}
+use Rattle.rules.specs.declared.Resting.the-variants.{S1, S2, S3, S4, S5, S7, S8}
 use Rattle.rules.specs.declared.Item.{Item}
 use Rattle.rules.specs.declared.Event.{Event}
-use Rattle.rules.specs.declared.Input.{Input}
-use Rattle.rules.specs.declared.Input.the-variants.{CharacterDown, CharacterUp, ThumbDown, ThumbUp, FunctionDown, Tick}
+use Rattle.rules.specs.declared.Input.the-variants.{CharacterDown, CharacterUp, ThumbDown}
 use Rattle.reasons.specs.Reason.{Cause, late, by, Test, nothing-compared, takes-thumb, takes-character, overlaps, stays}
 use Rattle.reasons.specs.Reason.{overlaps-as-pair, overlaps-of, Otherwise, Reasoned, reasons}
 

@@ -1,7 +1,7 @@
 -- The reasons are true: they are of the items that are committed, the line that they name committed them, what they say was compared
 -- decides, and at the turning stamps, there and only there, the decision becomes another one. The proofs are in proofs/.
 use Prim.Native.Nat.{ℕ, suc, _-_, _≤_, _<_}
-use mathlib.Core.Bool.{Bool, true, false}
+use mathlib.Core.Bool.{true, false}
 use mathlib.Core.List.{List, [], _∷_, map}
 use mathlib.Core.Logic.{_≢_}
 use mathlib.Core.Option.{Option, none, some}
@@ -22,7 +22,7 @@ use Rattle.rules.specs.declared.Event.{Event}
 use Rattle.rules.specs.declared.Input.{Input}
 use Rattle.rules.specs.declared.Input.the-variants.{Tick}
 use Rattle.reasons.specs.Turning.{unstamped, decided, since, never, turnings, passed}
-use Rattle.reasons.specs.Reason.{Cause, late, by, Test, comes-out, compared, Otherwise, reason, Reasoned, reasoned, step-reasons}
+use Rattle.reasons.specs.Reason.{Cause, late, by, comes-out, compared, Otherwise, reason, Reasoned, reasoned, step-reasons}
 use Rattle.reasons.specs.Reason.{reasons}
 
 -- the stamp so many milliseconds sooner

@@ -84,25 +84,25 @@ turns-in-S3 d O (ThumbUp P) = if same-thumb P O then never else at-deadline d
 turns-in-S3 d O FunctionDown = never
 turns-in-S3 d O Tick = at-deadline d
 
--- S4, a=o-m: a character takes the thumb while a>b, that is before o+a. M up leaves M alone while b<400, that is before o+400: before
--- the deadline 100b < J(a+b) always holds. Another thumb, O up and a function key commit M+O, as the line "late" does.
-abbrev pub turns-in-S4 : Option Stamp → Key → Stamp → Thumb → Stamp → Input → List Stamp
-turns-in-S4 d M m O o (CharacterDown N) = at-or-late (later o (lag m o)) d
-turns-in-S4 d M m O o (CharacterUp N) = if same-key N M then at-or-late (later o short-overlap-time) d else at-deadline d
-turns-in-S4 d M m O o (ThumbDown P) = if same-thumb P O then at-deadline d else never
-turns-in-S4 d M m O o (ThumbUp P) = if same-thumb P O then never else at-deadline d
-turns-in-S4 d M m O o FunctionDown = never
-turns-in-S4 d M m O o Tick = at-deadline d
+-- S4: a character takes the thumb before the stamp v; M up leaves M alone before w. Another thumb, O up and a function key commit M+O,
+-- as the line "late" does.
+abbrev pub turns-in-S4 : Option Stamp → Stamp → Stamp → Key → Thumb → Input → List Stamp
+turns-in-S4 d v w M O (CharacterDown N) = at-or-late v d
+turns-in-S4 d v w M O (CharacterUp N) = if same-key N M then at-or-late w d else at-deadline d
+turns-in-S4 d v w M O (ThumbDown P) = if same-thumb P O then at-deadline d else never
+turns-in-S4 d v w M O (ThumbUp P) = if same-thumb P O then never else at-deadline d
+turns-in-S4 d v w M O FunctionDown = never
+turns-in-S4 d v w M O Tick = at-deadline d
 
--- S5, a=m-o: another thumb takes the character while a≥b, that is before m+a+1. O up leads to S6 while b<400. A character, M up and a
--- function key commit M+O, as the line "late" does.
-abbrev pub turns-in-S5 : Option Stamp → Thumb → Stamp → Key → Stamp → Input → List Stamp
-turns-in-S5 d O o M m (CharacterDown N) = never
-turns-in-S5 d O o M m (CharacterUp N) = if same-key N M then never else at-deadline d
-turns-in-S5 d O o M m (ThumbDown P) = if same-thumb P O then at-deadline d else at-or-late (later m (lag o m + 1)) d
-turns-in-S5 d O o M m (ThumbUp P) = if same-thumb P O then at-or-late (later m short-overlap-time) d else at-deadline d
-turns-in-S5 d O o M m FunctionDown = never
-turns-in-S5 d O o M m Tick = at-deadline d
+-- S5: another thumb takes the character before v; O up leads to S6 before w. A character, M up and a function key commit M+O, as the line
+-- "late" does.
+abbrev pub turns-in-S5 : Option Stamp → Stamp → Stamp → Thumb → Key → Input → List Stamp
+turns-in-S5 d v w O M (CharacterDown N) = never
+turns-in-S5 d v w O M (CharacterUp N) = if same-key N M then never else at-deadline d
+turns-in-S5 d v w O M (ThumbDown P) = if same-thumb P O then at-deadline d else at-or-late v d
+turns-in-S5 d v w O M (ThumbUp P) = if same-thumb P O then at-or-late w d else at-deadline d
+turns-in-S5 d v w O M FunctionDown = never
+turns-in-S5 d v w O M Tick = at-deadline d
 
 -- S6: a function key does what the line "late" does, and nothing else does.
 abbrev pub turns-in-S6 : Option Stamp → Input → List Stamp
@@ -113,24 +113,16 @@ turns-in-S6 d (ThumbUp P) = at-deadline d
 turns-in-S6 d FunctionDown = never
 turns-in-S6 d Tick = at-deadline d
 
--- S7 and S8, a=k-m: a third key parts the pair while a≥b, that is before k+a+1.
-abbrev pub parts-before : Stamp → Stamp → Stamp
-parts-before m k = later k (lag m k + 1)
-
--- S7, M up: 100b < N(a+b) while b is below aN/(100-N), rounded up; and b<T_s before the deadline.
-abbrev pub short-before : Lent → Stamp → Stamp → Stamp
-short-before g m k = later k (up (lag m k * g .n) (100 - g .n))
-
--- S7: K up and a function key commit the pair, as the line "late" does.
-abbrev pub turns-in-S7 : Lent → Option Stamp → Key → Stamp → Key → Stamp → Input → List Stamp
-turns-in-S7 g d M m K k (CharacterDown N) = at-or-late (parts-before m k) d
-turns-in-S7 g d M m K k (CharacterUp N) =
-    if same-key N M then at-or-late (short-before g m k) d else
+-- S7: a third key parts the pair before v; M up leads to S8 before w. K up and a function key commit the pair, as the line "late" does.
+abbrev pub turns-in-S7 : Option Stamp → Stamp → Stamp → Key → Key → Input → List Stamp
+turns-in-S7 d v w M K (CharacterDown N) = at-or-late v d
+turns-in-S7 d v w M K (CharacterUp N) =
+    if same-key N M then at-or-late w d else
     if same-key N K then never else at-deadline d
-turns-in-S7 g d M m K k (ThumbDown P) = at-or-late (parts-before m k) d
-turns-in-S7 g d M m K k (ThumbUp P) = at-deadline d
-turns-in-S7 g d M m K k FunctionDown = never
-turns-in-S7 g d M m K k Tick = at-deadline d
+turns-in-S7 d v w M K (ThumbDown P) = at-or-late v d
+turns-in-S7 d v w M K (ThumbUp P) = at-deadline d
+turns-in-S7 d v w M K FunctionDown = never
+turns-in-S7 d v w M K Tick = at-deadline d
 
 -- S8, a third key: the line "late" parts the pair too. So where v comes before the deadline there are two turning stamps: parted, then
 -- together, then parted since it is late. Else there is the deadline at most.
@@ -138,29 +130,45 @@ abbrev pub at-and-late : Stamp → Option Stamp → List Stamp → List Stamp
 at-and-late v none late-only = v ∷ []
 at-and-late v (some d) late-only = if ltb (v .0) (d .0) then v ∷ d ∷ [] else late-only
 
--- S8, K up: M and K stay together until 100(r-k) < L(now-k), that is up to 100(r-k)/L after k.
-abbrev pub share-before : Settings → Stamp → Stamp → Stamp
-share-before s k r = later k ((100 * lag k r) / s .l + 1)
+-- S8: a third key parts the pair before v; it stays together where K is up before w, and M and K are parted from there on. The line "late"
+-- parts them as a third letter does that makes no pair with K.
+abbrev pub turns-in-S8 : Lent → Option Stamp → Stamp → Stamp → Key → Input → List Stamp
+turns-in-S8 g d v w K (CharacterDown N) = at-and-late v d (if is-pair (g .pairs) K N then at-deadline d else never)
+turns-in-S8 g d v w K (CharacterUp N) = if same-key N K then at-or-late w d else at-deadline d
+turns-in-S8 g d v w K (ThumbDown P) = at-and-late v d (at-deadline d)
+turns-in-S8 g d v w K (ThumbUp P) = at-deadline d
+turns-in-S8 g d v w K FunctionDown = at-deadline d
+turns-in-S8 g d v w K Tick = at-deadline d
 
--- S8: M and K are parted by the line "late" as by a third letter that makes no pair with K.
-abbrev pub turns-in-S8 : Lent → Settings → Option Stamp → Key → Stamp → Key → Stamp → Stamp → Input → List Stamp
-turns-in-S8 g s d M m K k r (CharacterDown N) =
-    at-and-late (parts-before m k) d (if is-pair (g .pairs) K N then at-deadline d else never)
-turns-in-S8 g s d M m K k r (CharacterUp N) = if same-key N K then at-or-late (share-before s k r) d else at-deadline d
-turns-in-S8 g s d M m K k r (ThumbDown P) = at-and-late (parts-before m k) d (at-deadline d)
-turns-in-S8 g s d M m K k r (ThumbUp P) = at-deadline d
-turns-in-S8 g s d M m K k r FunctionDown = at-deadline d
-turns-in-S8 g s d M m K k r Tick = at-deadline d
+-- The stamps v and w. S4, a=o-m: a>b before o+a, and b<400 before o+400; before the deadline 100b < J(a+b) always holds.
+abbrev pub nearer-before : Stamp → Stamp → Stamp
+nearer-before m o = later o (lag m o)
+
+-- in S5 too, with L, and m for o
+abbrev pub brief-before : Stamp → Stamp
+brief-before o = later o short-overlap-time
+
+-- S5, a=m-o: a≥b before m+a+1. S7 and S8, a=k-m: a≥b before k+a+1.
+abbrev pub parts-before : Stamp → Stamp → Stamp
+parts-before m k = later k (lag m k + 1)
+
+-- S7, M up: 100b < N(a+b) while b is below aN/(100-N), rounded up; and b<T_s before the deadline.
+abbrev pub short-before : ℕ → Stamp → Stamp → Stamp
+short-before n m k = later k (up (lag m k * n) (100 - n))
+
+-- S8, K up: 100(r-k) < L(now-k) from the first millisecond behind k+100(r-k)/L on
+abbrev pub share-before : ℕ → Stamp → Stamp → Stamp
+share-before l k r = later k ((100 * lag k r) / l + 1)
 
 abbrev pub turns-in : Lent → Settings → Option Stamp → Resting → Input → List Stamp
 turns-in g s d S1 i = never
 turns-in g s d (S2 M m) i = turns-in-S2 g d M i
 turns-in g s d (S3 O o) i = turns-in-S3 d O i
-turns-in g s d (S4 M m O o) i = turns-in-S4 d M m O o i
-turns-in g s d (S5 O o M m) i = turns-in-S5 d O o M m i
+turns-in g s d (S4 M m O o) i = turns-in-S4 d (nearer-before m o) (brief-before o) M O i
+turns-in g s d (S5 O o M m) i = turns-in-S5 d (parts-before o m) (brief-before m) O M i
 turns-in g s d (S6 O o M m r) i = turns-in-S6 d i
-turns-in g s d (S7 M m K k) i = turns-in-S7 g d M m K k i
-turns-in g s d (S8 M m K k r) i = turns-in-S8 g s d M m K k r i
+turns-in g s d (S7 M m K k) i = turns-in-S7 d (parts-before m k) (short-before (g .n) m k) M K i
+turns-in g s d (S8 M m K k r) i = turns-in-S8 g d (parts-before m k) (share-before (s .l) k r) K i
 
 -- the turning stamps of a state and an event
 abbrev pub turnings : Lent → Settings → Resting → Input → List Stamp
