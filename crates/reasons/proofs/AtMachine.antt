@@ -57,11 +57,13 @@ from-last last (S7 M m K k) h = leb-true (k .0) (last .0) (and-eq-true-iff (at-o
 from-last last (S8 M m K k r) h =
     leb-true (r .0) (last .0) (and-eq-true-iff (at-or-before m last && at-or-before k last) (at-or-before r last) .0 h .1)
 
-record Formed (m : Machine) : Type 0 where
-  ranged : in-range (m .settings) ≡ true
-  since-last : since (m .resting) .0 ≤ m .last .0
+pub record Formed (m : Machine) : Type 0 where
+  pub ranged : in-range (m .settings) ≡ true
+  pub stamps : stamps-by (m .last) (m .resting) ≡ true
+  pub low : m .last .0 ≤ largest-stamp
+  pub since-last : since (m .resting) .0 ≤ m .last .0
 
-formed : (g : Lent) (m : Machine) → well-formed g m ≡ true → Formed m
+pub formed : (g : Lent) (m : Machine) → well-formed g m ≡ true → Formed m
 unfolding well-formed
 formed g m w =
     let y = m .resting in
@@ -74,10 +76,12 @@ formed g m w =
     let h6 = and-eq-true-iff six (pair-lent g y) .0 w .0 in
     let h5 = and-eq-true-iff five (held-formed (m .held)) .0 h6 .0 in
     let h4 = and-eq-true-iff four (in-order y) .0 h5 .0 in
-    let h3 = and-eq-true-iff three (at-or-before last (at largest-stamp)) .0 h4 .0 in
-    let h2 = and-eq-true-iff two (stamps-by last y) .0 h3 in
+    let h3 = and-eq-true-iff three (at-or-before last (at largest-stamp)) .0 h4 in
+    let h2 = and-eq-true-iff two (stamps-by last y) .0 (h3 .0) in
     record {
       ranged = and-eq-true-iff (in-range (m .settings)) (keys-below y) .0 (h2 .0) .0;
+      stamps = h2 .1;
+      low = leb-true (last .0) largest-stamp (h3 .1);
       since-last = from-last last y (h2 .1);
     }
 

@@ -8,7 +8,7 @@ use mathlib.Core.Option.{Option, none, some}
 use lib.Dec.{ltb}
 use Rattle.rules.specs.Choice.{if_then_else_}
 use Rattle.rules.specs.Numbers.{short-overlap-time, up}
-use Rattle.rules.specs.Pairs.{Lent, is-pair}
+use Rattle.rules.specs.Pairs.{Pair, Lent, is-pair}
 use Rattle.rules.specs.States.{at, lag, later, deadline, at-or-before}
 use Rattle.rules.specs.OneEvent.{Done, _leaving_, same-key, same-thumb, one-event}
 use Rattle.rules.specs.declared.Stamp.{Stamp}
@@ -64,16 +64,16 @@ abbrev pub at-or-late : Stamp → Option Stamp → List Stamp
 at-or-late v none = v ∷ []
 at-or-late v (some d) = at (min (v .0) (d .0)) ∷ []
 
--- In each state d is its deadline.
+-- In each state d is its deadline, l the list of pairs.
 -- S2: M up, a function key and a character that makes no pair with M commit M, as the line "late" does: no stamp turns that. Else the
 -- deadline does.
-abbrev pub turns-in-S2 : Lent → Option Stamp → Key → Input → List Stamp
-turns-in-S2 g d M (CharacterDown N) = if is-pair (g .pairs) M N then at-deadline d else never
-turns-in-S2 g d M (CharacterUp N) = if same-key N M then never else at-deadline d
-turns-in-S2 g d M (ThumbDown P) = at-deadline d
-turns-in-S2 g d M (ThumbUp P) = at-deadline d
-turns-in-S2 g d M FunctionDown = never
-turns-in-S2 g d M Tick = at-deadline d
+abbrev pub turns-in-S2 : List Pair → Option Stamp → Key → Input → List Stamp
+turns-in-S2 l d M (CharacterDown N) = if is-pair l M N then at-deadline d else never
+turns-in-S2 l d M (CharacterUp N) = if same-key N M then never else at-deadline d
+turns-in-S2 l d M (ThumbDown P) = at-deadline d
+turns-in-S2 l d M (ThumbUp P) = at-deadline d
+turns-in-S2 l d M FunctionDown = never
+turns-in-S2 l d M Tick = at-deadline d
 
 -- S3: another thumb, O up and a function key do what the line "late" does.
 abbrev pub turns-in-S3 : Option Stamp → Thumb → Input → List Stamp
@@ -132,13 +132,13 @@ at-and-late v (some d) late-only = if ltb (v .0) (d .0) then v ∷ d ∷ [] else
 
 -- S8: a third key parts the pair before v; it stays together where K is up before w, and M and K are parted from there on. The line "late"
 -- parts them as a third letter does that makes no pair with K.
-abbrev pub turns-in-S8 : Lent → Option Stamp → Stamp → Stamp → Key → Input → List Stamp
-turns-in-S8 g d v w K (CharacterDown N) = at-and-late v d (if is-pair (g .pairs) K N then at-deadline d else never)
-turns-in-S8 g d v w K (CharacterUp N) = if same-key N K then at-or-late w d else at-deadline d
-turns-in-S8 g d v w K (ThumbDown P) = at-and-late v d (at-deadline d)
-turns-in-S8 g d v w K (ThumbUp P) = at-deadline d
-turns-in-S8 g d v w K FunctionDown = at-deadline d
-turns-in-S8 g d v w K Tick = at-deadline d
+abbrev pub turns-in-S8 : List Pair → Option Stamp → Stamp → Stamp → Key → Input → List Stamp
+turns-in-S8 l d v w K (CharacterDown N) = at-and-late v d (if is-pair l K N then at-deadline d else never)
+turns-in-S8 l d v w K (CharacterUp N) = if same-key N K then at-or-late w d else at-deadline d
+turns-in-S8 l d v w K (ThumbDown P) = at-and-late v d (at-deadline d)
+turns-in-S8 l d v w K (ThumbUp P) = at-deadline d
+turns-in-S8 l d v w K FunctionDown = at-deadline d
+turns-in-S8 l d v w K Tick = at-deadline d
 
 -- The stamps v and w. S4, a=o-m: a>b before o+a, and b<400 before o+400; before the deadline 100b < J(a+b) always holds.
 abbrev pub nearer-before : Stamp → Stamp → Stamp
@@ -162,13 +162,13 @@ share-before l k r = later k ((100 * lag k r) / l + 1)
 
 abbrev pub turns-in : Lent → Settings → Option Stamp → Resting → Input → List Stamp
 turns-in g s d S1 i = never
-turns-in g s d (S2 M m) i = turns-in-S2 g d M i
+turns-in g s d (S2 M m) i = turns-in-S2 (g .pairs) d M i
 turns-in g s d (S3 O o) i = turns-in-S3 d O i
 turns-in g s d (S4 M m O o) i = turns-in-S4 d (nearer-before m o) (brief-before o) M O i
 turns-in g s d (S5 O o M m) i = turns-in-S5 d (parts-before o m) (brief-before m) O M i
 turns-in g s d (S6 O o M m r) i = turns-in-S6 d i
 turns-in g s d (S7 M m K k) i = turns-in-S7 d (parts-before m k) (short-before (g .n) m k) M K i
-turns-in g s d (S8 M m K k r) i = turns-in-S8 g d (parts-before m k) (share-before (s .l) k r) K i
+turns-in g s d (S8 M m K k r) i = turns-in-S8 (g .pairs) d (parts-before m k) (share-before (s .l) k r) K i
 
 -- the turning stamps of a state and an event
 abbrev pub turnings : Lent → Settings → Resting → Input → List Stamp
