@@ -11,6 +11,7 @@ use rules::Resting;
 use rules::Settings;
 use rules::Stamp;
 use rules::Thumb;
+use waits::at_or_before;
 use waits::before;
 use waits::character_first_wait;
 use waits::lag;
@@ -23,12 +24,12 @@ ghost use Rattle.waits.specs.Capped.{lag-at-most};
 ghost use Rattle.rules.specs.States.{at};
 ghost use Rattle.pairs.specs.Lent.{pairs-in, lent};
 ghost use Rattle.reasons.specs.Turning.{at-deadline, at-or-late, at-and-late, turns-in-S2, turns-in-S3, turns-in-S4, turns-in-S5};
-ghost use Rattle.reasons.specs.Turning.{turns-in-S6, turns-in-S7, turns-in-S8};
-ghost use Rattle.reasons.specs.Reason.{compared-in-S4, compared-in-S5, compared-in-S7, compared-in-S8, compared};
+ghost use Rattle.reasons.specs.Turning.{turns-in-S6, turns-in-S7, turns-in-S8, since, next-turn, last-turn};
+ghost use Rattle.reasons.specs.Reason.{compared-in-S4, compared-in-S5, compared-in-S7, compared-in-S8, compared, sooner-at};
 ghost use Rattle.margins.specs.Views.{when, stamps, test, of-times};
 ghost use Rattle.margins.specs.Capped.{parts-at-most, short-at-most, share-at-most, turns-at-most};
 
-// The deadline of a resting state, if it has one.
+// A stamp, if there is one: the deadline of a resting state, or a turning stamp.
 pub enum Due {
     Never,
     At(Stamp),
@@ -491,6 +492,92 @@ pub fn turnings(
                 second,
                 input,
             )
+        }
+    }
+}
+
+// The last stamp of a state: no event of it comes before.
+pub fn began(resting: Resting) -> Stamp
+    ensures { λ r. ⌜ r ≡ since resting ⌝ }
+{
+    match resting {
+        Resting::S1 => Stamp(0),
+        Resting::S2(_, m) => m,
+        Resting::S3(_, o) => o,
+        Resting::S4(_, _, _, o) => o,
+        Resting::S5(_, _, _, m) => m,
+        Resting::S6(_, _, _, _, r) => r,
+        Resting::S7(_, _, _, k) => k,
+        Resting::S8(_, _, _, _, r) => r,
+    }
+}
+
+// The first turning stamp behind a stamp.
+pub fn next_turn(at: Stamp, turns: Turns) -> Due
+    ensures { λ r. ⌜ when r ≡ next-turn at (stamps turns) ⌝ }
+{
+    match turns {
+        Turns::Never => Due::Never,
+        Turns::Once(v) => {
+            if at_or_before(v, at) {
+                Due::Never
+            } else {
+                Due::At(v)
+            }
+        }
+        Turns::Twice(v, w) => {
+            if at_or_before(v, at) {
+                if at_or_before(w, at) {
+                    Due::Never
+                } else {
+                    Due::At(w)
+                }
+            } else {
+                Due::At(v)
+            }
+        }
+    }
+}
+
+// The last turning stamp at or before a stamp.
+pub fn last_turn(at: Stamp, turns: Turns) -> Due
+    ensures { λ r. ⌜ when r ≡ last-turn at (stamps turns) ⌝ }
+{
+    match turns {
+        Turns::Never => Due::Never,
+        Turns::Once(v) => {
+            if at_or_before(v, at) {
+                Due::At(v)
+            } else {
+                Due::Never
+            }
+        }
+        Turns::Twice(v, w) => {
+            if at_or_before(v, at) {
+                if at_or_before(w, at) {
+                    Due::At(w)
+                } else {
+                    Due::At(v)
+                }
+            } else {
+                Due::Never
+            }
+        }
+    }
+}
+
+// The nearest stamp before the last turning stamp, unless that is before the state began.
+pub fn sooner_at(start: Stamp, last: Due) -> Due
+    ensures { λ r. ⌜ when r ≡ sooner-at start (when last) ⌝ }
+{
+    match last {
+        Due::Never => Due::Never,
+        Due::At(v) => {
+            if v.0 <= start.0 {
+                Due::Never
+            } else {
+                Due::At(Stamp(v.0 - 1))
+            }
         }
     }
 }

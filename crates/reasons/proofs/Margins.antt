@@ -18,7 +18,7 @@ use Rattle.rules.specs.declared.Resting.{Resting}
 use Rattle.rules.specs.declared.Input.{Input}
 use Rattle.rules.proofs.Choices.{by-test}
 use Rattle.reasons.specs.Turning.{decided, since, turnings, passed, next-turn, or-else, last-turn}
-use Rattle.reasons.specs.Reason.{Otherwise, if-later, if-sooner}
+use Rattle.reasons.specs.Reason.{sooner-at, Otherwise, otherwise, if-later, if-sooner}
 use Rattle.reasons.specs.ReasonFacts.{sooner, Ordered, Turns, True-margins}
 use Rattle.reasons.proofs.Turnings.{true-turnings}
 
@@ -185,9 +185,9 @@ module _ (g : Lent) (s : Settings) (now : Stamp) (x : Resting) (i : Input) (from
   if-none h =
       record { other = λ w f. absurd (none-is-not-some f); same = λ w f. absurd (none-is-not-some f); never = λ _. h }
 
-  if-last : (o : Option Stamp) → last-turn now vs ≡ o → Sooner (if-sooner g s x i now o)
+  if-last : (o : Option Stamp) → last-turn now vs ≡ o → Sooner (if-sooner g s x i now (sooner-at (since x) o))
   if-last none e = if-none (λ k f. r .same-side (sooner now k) now f from (no-last now vs (r .in-order) e (sooner now k) (omega arith)))
-  if-last (some v) e = by-test Sooner (at-or-before v (since x)) begun within
+  if-last (some v) e = by-test (λ (o : Option Stamp). Sooner (if-sooner g s x i now o)) (at-or-before v (since x)) begun within
     where
       l : Last now vs v
       l = last-is now vs (r .in-order) v e
@@ -198,10 +198,10 @@ module _ (g : Lent) (s : Settings) (now : Stamp) (x : Resting) (i : Input) (from
           if-none (λ k f. r .same-side (sooner now k) now f from (l .still (sooner now k) (omega arith) (omega arith)))
 
       within : at-or-before v (since x) ≡ false
-          → Sooner (some (record { ms = lag v now + 1; decision = decided g s x i (at (v .0 - 1)) }))
+          → Sooner (some (otherwise g s x i (lag (at (v .0 - 1)) now) (at (v .0 - 1))))
       within h =
           let b : since x .0 < v .0 = leb-false (v .0) (since x .0) h in
-          let there : sooner now (lag v now + 1) ≡ at (v .0 - 1) = ap at (omega (arith, l .by-now)) in
+          let there : sooner now (lag (at (v .0 - 1)) now) ≡ at (v .0 - 1) = ap at (omega (arith, l .by-now)) in
           let turned : d (at (v .0 - 1)) ≢ d now =
           r .other-side (at (v .0 - 1)) now (omega arith) from (l .one-less (at (v .0 - 1)) (omega arith)) in
           record {

@@ -1,7 +1,7 @@
 -- Why an item was committed: the state before the event, whether its line "late" or the event itself committed, what was compared, how
 -- far the deadline lay, and what the same event would have done had it come sooner or later. All of it is a view on `one-event` of
 -- document 01: no rule is said again here. The laws are in ReasonFacts.antt.
-use Prim.Native.Nat.{ℕ, _+_, _-_}
+use Prim.Native.Nat.{ℕ, _-_}
 use mathlib.Core.Bool.{Bool, true}
 use mathlib.Core.List.{List, [], map}
 use mathlib.Core.Option.{Option, none, some}
@@ -107,21 +107,28 @@ compared g s now (S6 O o M m r) i = nothing-compared
 compared g s now (S7 M m K k) i = compared-in-S7 g now M m k i
 compared g s now (S8 M m K k r) i = compared-in-S8 s now m K k r i
 
+-- The nearest stamp before the last turning stamp v, at which the event would have been decided otherwise: one millisecond before it,
+-- unless that is before the state began.
+abbrev pub sooner-at : Stamp → Option Stamp → Option Stamp
+sooner-at began none = none
+sooner-at began (some v) = if at-or-before v began then none else some (at (v .0 - 1))
+
 -- What would have been, had the event come so many milliseconds sooner, or later: another decision.
 pub record Otherwise : Type 0 where
   pub ms : ℕ
   pub decision : Done
 
--- with the next turning stamp v: at v
+-- at a stamp t, n milliseconds away
+abbrev pub otherwise : Lent → Settings → Resting → Input → ℕ → Stamp → Otherwise
+otherwise g s x i n t = record { ms = n; decision = decided g s x i t }
+
 abbrev pub if-later : Lent → Settings → Resting → Input → Stamp → Option Stamp → Option Otherwise
 if-later g s x i now none = none
-if-later g s x i now (some v) = some (record { ms = lag now v; decision = decided g s x i v })
+if-later g s x i now (some t) = some (otherwise g s x i (lag now t) t)
 
--- with the last turning stamp v: one millisecond before v, unless that is before the state began
 abbrev pub if-sooner : Lent → Settings → Resting → Input → Stamp → Option Stamp → Option Otherwise
 if-sooner g s x i now none = none
-if-sooner g s x i now (some v) =
-    if at-or-before v (since x) then none else some (record { ms = lag v now + 1; decision = decided g s x i (at (v .0 - 1)) })
+if-sooner g s x i now (some t) = some (otherwise g s x i (lag t now) t)
 
 pub record Reason : Type 0 where
   -- the state before the event: its keys and stamps
@@ -142,7 +149,7 @@ reason g s now x i =
       cause = if is-late then late else by i;
       test = if is-late then nothing-compared else compared g s now x i;
       due = distance-to now (deadline g s x);
-      sooner = if-sooner g s x i now (last-turn now (turnings g s x i));
+      sooner = if-sooner g s x i now (sooner-at (since x) (last-turn now (turnings g s x i)));
       later = if-later g s x i now (next-turn now (turnings g s x i));
     }
 
