@@ -2,7 +2,7 @@
 use Prim.Native.Nat.{_≤_}
 use native.Mathlib.Omega.{arith}
 use mathlib.Core.Bool.{Bool, true, false, _&&_, and-eq-true-iff}
-use mathlib.Core.Option.{some}
+use mathlib.Core.Option.{some, Option·some-injective}
 use mathlib.Core.Path.{_≡_, refl, sym, ap, _∙_}
 use borrow.Author.Tests.{leb-true}
 use Rattle.rules.specs.Choice.{if_then_else_}
@@ -24,7 +24,7 @@ use Rattle.reasons.specs.Reason.{step-reasons}
 use Rattle.reasons.specs.ReasonFacts.{True-reasons, event-at, decision-of, Turns-at-machine}
 use Rattle.reasons.proofs.Items.{same-items, true-cause}
 use Rattle.reasons.proofs.Turnings.{true-turnings}
-use Rattle.reasons.proofs.Margins.{some-injective, true-margins}
+use Rattle.reasons.proofs.Margins.{true-margins}
 
 -- what an event with number 0 was judged as
 record Taken (g : Lent) (m : Machine) (e : Event) : Type 0 where
@@ -109,7 +109,7 @@ answered g m e k = rw (k .passed-all .was-good, k .judged)
 decides : (g : Lent) (m : Machine) (e : Event) (k : Taken g m e) (i : Input) → input (e .kind) (e .key) ≡ some i
     → decision-of (step g m e) ≡ decided g (m .settings) (m .resting) (acts-as (m .held) i) (e .stamp)
 decides g m e k i h =
-    let same : k .input-is ≡ i = some-injective (sym (k .passed-all .is-input) ∙ h) in
+    let same : k .input-is ≡ i = Option·some-injective _ _ (sym (k .passed-all .is-input) ∙ h) in
     ap decision-of (answered g m e k) ∙ ap (λ j. decided g (m .settings) (m .resting) (acts-as (m .held) j) (e .stamp)) same
 
 pub turns-at-machine : Turns-at-machine

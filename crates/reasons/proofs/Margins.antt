@@ -4,7 +4,7 @@ use native.Mathlib.Omega.{arith}
 use mathlib.Core.Bool.{Bool, true, false}
 use mathlib.Core.List.{List, [], _∷_}
 use mathlib.Core.Logic.{_≢_}
-use mathlib.Core.Option.{Option, none, some}
+use mathlib.Core.Option.{Option, none, some, Option·none-ne-some, Option·some-injective}
 use mathlib.Core.Path.{_≡_, refl, sym, ap, subst, _∙_}
 use lib.Dec.{leb}
 use borrow.Author.Tests.{leb-true, leb-false, le-leb, lt-leb}
@@ -21,14 +21,6 @@ use Rattle.reasons.specs.Turning.{decided, since, turnings, passed, next
 use Rattle.reasons.specs.Reason.{sooner-at, Otherwise, otherwise, if-later, if-sooner}
 use Rattle.reasons.specs.ReasonFacts.{sooner, Ordered, Turns, True-margins}
 use Rattle.reasons.proofs.Turnings.{true-turnings}
-
-none-is-not-some : {X : Type 0} {x : X} → none ≡ some x → ⊥
-none-is-not-some e =
-    let z : _≡_ {A = ℕ} 0 1 = cc in
-    omega arith
-
-pub some-injective : {X : Type 0} {x y : X} → some x ≡ some y → x ≡ y
-some-injective e = cc
 
 -- How many of ordered stamps are passed.
 
@@ -56,7 +48,7 @@ record Next (now : Stamp) (vs : List Stamp) (v : Stamp) : Type 0 where
   one-more : passed v vs ≡ suc (passed now vs)
 
 next-is : (now : Stamp) (vs : List Stamp) → Ordered vs → (v : Stamp) → next-turn now vs ≡ some v → Next now vs v
-next-is now [] o v e = absurd (none-is-not-some e)
+next-is now [] o v e = absurd (Option·none-ne-some _ e)
 next-is now (w ∷ vs) o v e = go (next-is now vs (tail w vs o) v) (leb (w .0) (now .0)) refl e
   where
     go : (next-turn now vs ≡ some v → Next now vs v) → (b : Bool) → leb (w .0) (now .0) ≡ b
@@ -71,7 +63,7 @@ next-is now (w ∷ vs) o v e = go (next-is now vs (tail w vs o) v) (leb (w .0) (
         }
     go then-is false h e =
         let before : now .0 < w .0 = leb-false (w .0) (now .0) h in
-        subst (Next now (w ∷ vs)) (some-injective e)
+        subst (Next now (w ∷ vs)) (Option·some-injective _ _ e)
         (record {
           behind = before;
           still = λ t f b. none-passed t w vs o b ∙ sym (none-passed now w vs o before);
@@ -87,7 +79,7 @@ no-next now (w ∷ vs) e t f = go (λ h. no-next now vs h t f) (leb (w .0) (now 
     go rest true h e =
         let by-now : w .0 ≤ now .0 = leb-true (w .0) (now .0) h in
         passes t w vs (omega arith) ∙ ap suc (rest e) ∙ sym (passes now w vs by-now)
-    go rest false h e = absurd (none-is-not-some (sym e))
+    go rest false h e = absurd (Option·none-ne-some _ (sym e))
 
 -- the last one
 record Last (now : Stamp) (vs : List Stamp) (v : Stamp) : Type 0 where
@@ -101,8 +93,8 @@ no-last now [] o e t f = refl
 no-last now (w ∷ vs) o e t f = go (leb (w .0) (now .0)) refl e
   where
     not-none : (d : Option Stamp) → or-else w d ≡ none → ⊥
-    not-none none e = none-is-not-some (sym e)
-    not-none (some u) e = none-is-not-some (sym e)
+    not-none none e = Option·none-ne-some _ (sym e)
+    not-none (some u) e = Option·none-ne-some _ (sym e)
 
     go : (b : Bool) → leb (w .0) (now .0) ≡ b → (if b then or-else w (last-turn now vs) else none) ≡ none
         → passed t (w ∷ vs) ≡ passed now (w ∷ vs)
@@ -112,13 +104,13 @@ no-last now (w ∷ vs) o e t f = go (leb (w .0) (now .0)) refl e
         none-passed t w vs o (omega arith) ∙ sym (none-passed now w vs o before)
 
 last-is : (now : Stamp) (vs : List Stamp) → Ordered vs → (v : Stamp) → last-turn now vs ≡ some v → Last now vs v
-last-is now [] o v e = absurd (none-is-not-some e)
+last-is now [] o v e = absurd (Option·none-ne-some _ e)
 last-is now (w ∷ vs) o v e = go (last-is now vs (tail w vs o) v) (leb (w .0) (now .0)) refl e
   where
     on-last : (last-turn now vs ≡ some v → Last now vs v) → w .0 ≤ now .0 → (d : Option Stamp)
         → last-turn now vs ≡ d → or-else w d ≡ some v → Last now (w ∷ vs) v
     on-last rest by-now none h e =
-        subst (Last now (w ∷ vs)) (some-injective e)
+        subst (Last now (w ∷ vs)) (Option·some-injective _ _ e)
         (record {
           by-now = by-now;
           above = λ u r. r .0;
@@ -140,7 +132,7 @@ last-is now (w ∷ vs) o v e = go (last-is now vs (tail w vs o) v) (leb (w .0) (
     go : (last-turn now vs ≡ some v → Last now vs v) → (b : Bool) → leb (w .0) (now .0) ≡ b
         → (if b then or-else w (last-turn now vs) else none) ≡ some v → Last now (w ∷ vs) v
     go rest true h e = on-last rest (leb-true (w .0) (now .0) h) (last-turn now vs) refl e
-    go rest false h e = absurd (none-is-not-some e)
+    go rest false h e = absurd (Option·none-ne-some _ e)
 
 module _ (g : Lent) (s : Settings) (now : Stamp) (x : Resting) (i : Input) (from : since x .0 ≤ now .0)
     (r : Turns (since x) (turnings g s x i) (decided g s x i)) where
@@ -159,8 +151,8 @@ module _ (g : Lent) (s : Settings) (now : Stamp) (x : Resting) (i : Input) (from
   if-next : (o : Option Stamp) → next-turn now vs ≡ o → Later (if-later g s x i now o)
   if-next none e =
       record {
-        other = λ w f. absurd (none-is-not-some f);
-        same = λ w f. absurd (none-is-not-some f);
+        other = λ w f. absurd (Option·none-ne-some _ f);
+        same = λ w f. absurd (Option·none-ne-some _ f);
         never = λ _ k. r .same-side (later now k) now (omega arith) from (no-next now vs e (later now k) (omega arith));
       }
   if-next (some v) e =
@@ -168,11 +160,11 @@ module _ (g : Lent) (s : Settings) (now : Stamp) (x : Resting) (i : Input) (from
       let there : later now (lag now v) ≡ v = ap at (omega (arith, n .behind)) in
       let turned : d v ≢ d now = λ f. r .other-side now v from (omega (arith, n .behind)) (n .one-more) (sym f) in
       record {
-        other = λ w f. subst (λ (y : Otherwise). (d (later now (y .ms)) ≡ y .decision) × (y .decision ≢ d now)) (some-injective f)
+        other = λ w f. subst (λ (y : Otherwise). (d (later now (y .ms)) ≡ y .decision) × (y .decision ≢ d now)) (Option·some-injective _ _ f)
             (ap d there, turned);
-        same = λ w f. subst (λ (y : Otherwise). (k : ℕ) → k < y .ms → d (later now k) ≡ d now) (some-injective f)
+        same = λ w f. subst (λ (y : Otherwise). (k : ℕ) → k < y .ms → d (later now k) ≡ d now) (Option·some-injective _ _ f)
             (λ k b. r .same-side (later now k) now (omega arith) from (n .still (later now k) (omega arith) (omega arith)));
-        never = λ f. absurd (none-is-not-some (sym f));
+        never = λ f. absurd (Option·none-ne-some _ (sym f));
       }
 
   -- what a last turning stamp says
@@ -183,7 +175,7 @@ module _ (g : Lent) (s : Settings) (now : Stamp) (x : Resting) (i : Input) (from
 
   if-none : ((k : ℕ) → since x .0 ≤ sooner now k .0 → d (sooner now k) ≡ d now) → Sooner none
   if-none h =
-      record { other = λ w f. absurd (none-is-not-some f); same = λ w f. absurd (none-is-not-some f); never = λ _. h }
+      record { other = λ w f. absurd (Option·none-ne-some _ f); same = λ w f. absurd (Option·none-ne-some _ f); never = λ _. h }
 
   if-last : (o : Option Stamp) → last-turn now vs ≡ o → Sooner (if-sooner g s x i now (sooner-at (since x) o))
   if-last none e = if-none (λ k f. r .same-side (sooner now k) now f from (no-last now vs (r .in-order) e (sooner now k) (omega arith)))
@@ -205,12 +197,12 @@ module _ (g : Lent) (s : Settings) (now : Stamp) (x : Resting) (i : Input) (from
           let turned : d (at (v .0 - 1)) ≢ d now =
           r .other-side (at (v .0 - 1)) now (omega arith) from (l .one-less (at (v .0 - 1)) (omega arith)) in
           record {
-            other = λ w f. subst (λ (y : Otherwise). (d (sooner now (y .ms)) ≡ y .decision) × (y .decision ≢ d now)) (some-injective f)
+            other = λ w f. subst (λ (y : Otherwise). (d (sooner now (y .ms)) ≡ y .decision) × (y .decision ≢ d now)) (Option·some-injective _ _ f)
                 (ap d there, turned);
-            same = λ w f. subst (λ (y : Otherwise). (k : ℕ) → k < y .ms → d (sooner now k) ≡ d now) (some-injective f)
+            same = λ w f. subst (λ (y : Otherwise). (k : ℕ) → k < y .ms → d (sooner now k) ≡ d now) (Option·some-injective _ _ f)
                 (λ k c. r .same-side (sooner now k) now (omega (arith, l .by-now)) from
                 (l .still (sooner now k) (omega (arith, l .by-now)) (omega arith)));
-            never = λ f. absurd (none-is-not-some (sym f));
+            never = λ f. absurd (Option·none-ne-some _ (sym f));
           }
 
 pub true-margins : True-margins

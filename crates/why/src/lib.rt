@@ -2,6 +2,7 @@
 // machine answers.
 use deadlines::Asked;
 use deadlines::distance_with;
+use held::is_held;
 use margins::Compared;
 use margins::Due;
 use margins::began;
@@ -11,17 +12,22 @@ use margins::next_turn;
 use margins::sooner_at;
 use margins::turnings;
 use pairs::Times;
+use rules::Event;
 use rules::Input;
+use rules::Key;
 use rules::Lag;
 use rules::Machine;
 use rules::Resting;
 use rules::Settings;
 use rules::Stamp;
+use rules::Thumb;
 use waits::at_or_before;
 use waits::later;
 ghost use mathlib.Core.Path.{_≡_};
 ghost use Rattle.pairs.specs.Lent.{lent};
 ghost use Rattle.rules.specs.OneEvent.{due-by};
+ghost use Rattle.rules.specs.GivenBack.{acts-as};
+ghost use Rattle.states.specs.Meant.{meant};
 ghost use Rattle.margins.specs.Views.{when, test, of-times};
 ghost use Rattle.deadlines.specs.Views.{asked};
 ghost use Rattle.why.specs.FromDistance.{begun, at-distance, stamp-asked, deadline-asked};
@@ -130,4 +136,67 @@ pub fn numbers_of(list: &[u32], times: Times, machine: Machine, at: Stamp, input
         sooner: sooner,
         later: later,
     }
+}
+
+// The input that an event's kind and key name: any other kind than 1 to 5 counts as a tick, and any other thumb than 0 as the right one.
+fn meant(kind: u8, key: Key) -> Input
+    ensures { λ r. ⌜ r ≡ meant kind key ⌝ }
+{
+    match kind {
+        1 => Input::CharacterDown(key),
+        2 => Input::CharacterUp(key),
+        3 => {
+            if key.0 == 0 {
+                Input::ThumbDown(Thumb::Left)
+            } else {
+                Input::ThumbDown(Thumb::Right)
+            }
+        }
+        4 => {
+            if key.0 == 0 {
+                Input::ThumbUp(Thumb::Left)
+            } else {
+                Input::ThumbUp(Thumb::Right)
+            }
+        }
+        5 => Input::FunctionDown,
+        _ => Input::Tick,
+    }
+}
+
+// A down of a key that is held, and an up of one that is not, act as a tick.
+fn acts_as(held: u32, input: Input) -> Input
+    ensures { λ r. ⌜ r ≡ acts-as held input ⌝ }
+{
+    match input {
+        Input::CharacterDown(k) => {
+            if is_held(held, k) {
+                Input::Tick
+            } else {
+                Input::CharacterDown(k)
+            }
+        }
+        Input::CharacterUp(k) => {
+            if is_held(held, k) {
+                Input::CharacterUp(k)
+            } else {
+                Input::Tick
+            }
+        }
+        Input::ThumbDown(p) => Input::ThumbDown(p),
+        Input::ThumbUp(p) => Input::ThumbUp(p),
+        Input::FunctionDown => Input::FunctionDown,
+        Input::Tick => Input::Tick,
+    }
+}
+
+// The numbers of the reason of what an event commits, at any machine. Of an event that the machine refuses they say nothing.
+pub fn numbers_at(list: &[u32], times: Times, machine: Machine, event: Event) -> Numbers
+    ensures { λ r. ⌜ told r ≡ numbers-at-most (lent (now (list .entry)) times) (of-times times) machine (event .stamp)
+        (acts-as (machine .held) (meant (event .kind) (event .key))) ⌝ }
+{
+    let at = event.stamp;
+    let key = event.key;
+    let input = acts_as(machine.held, meant(event.kind, key));
+    numbers_of(list, times, machine, at, input)
 }
