@@ -10,7 +10,7 @@ use Rattle.rules.specs.Numbers.{largest-stamp, in-range}
 use Rattle.rules.specs.Held.{held-formed}
 use Rattle.rules.specs.Pairs.{Lent, lent-good}
 use Rattle.rules.specs.States.{at, keys-below, at-or-before, stamps-by, in-order, pair-lent, well-formed}
-use Rattle.rules.specs.GivenBack.{input, acts-as, accepted, judge, refusal, answer, step-with, step}
+use Rattle.rules.specs.GivenBack.{input, acts-as, accepted, judge, Answer, refusal, answer, step-with, step}
 use Rattle.rules.specs.declared.Stamp.{Stamp}
 use Rattle.rules.specs.declared.Resting.{Resting}
 use Rattle.rules.specs.declared.Resting.the-variants.{S1, S2, S3, S4, S5, S6, S7, S8}
@@ -85,6 +85,10 @@ formed g m w =
       since-last = from-last last y (h2 .1);
     }
 
+answered : (g : Lent) (m : Machine) (e : Event) (k : Taken g m e) → step g m e ≡ taken g m e (acts-as (m .held) (k .input-is))
+unfolding step step-with
+answered g m e k = rw (k .passed-all .was-good, k .judged)
+
 pub true-reasons : True-reasons
 unfolding step-reasons
 true-reasons g m e h =
@@ -92,18 +96,20 @@ true-reasons g m e h =
     let a = k .passed-all in
     let f = formed g m (a .was-well-formed) in
     record {
+      good-list = a .was-good;
+      good-machine = a .was-well-formed;
+      names = k .input-is;
+      is-input = a .is-input;
       acts = acts-as (m .held) (k .input-is);
+      acts-so = refl;
       is-accepted = k .judged;
+      its-step = ap (λ (r : Answer). r .items) (answered g m e k);
       its-reasons = rw (a .was-good, k .judged);
       its-items = same-items g m e;
       its-cause = true-cause g (m .settings) (e .stamp) (m .resting) (acts-as (m .held) (k .input-is));
       its-margins = true-margins g (a .was-good) (m .settings) (f .ranged) (e .stamp) (m .resting) (acts-as (m .held) (k .input-is))
           (omega (arith, f .since-last, a .not-before));
     }
-
-answered : (g : Lent) (m : Machine) (e : Event) (k : Taken g m e) → step g m e ≡ taken g m e (acts-as (m .held) (k .input-is))
-unfolding step step-with
-answered g m e k = rw (k .passed-all .was-good, k .judged)
 
 -- by the input that an event's kind and key are
 decides : (g : Lent) (m : Machine) (e : Event) (k : Taken g m e) (i : Input) → input (e .kind) (e .key) ≡ some i

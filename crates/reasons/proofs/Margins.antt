@@ -160,8 +160,8 @@ module _ (g : Lent) (s : Settings) (now : Stamp) (x : Resting) (i : Input) (from
       let there : later now (lag now v) ≡ v = ap at (omega (arith, n .behind)) in
       let turned : d v ≢ d now = λ f. r .other-side now v from (omega (arith, n .behind)) (n .one-more) (sym f) in
       record {
-        other = λ w f. subst (λ (y : Otherwise). (d (later now (y .ms)) ≡ y .decision) × (y .decision ≢ d now)) (Option·some-injective _ _ f)
-            (ap d there, turned);
+        other = λ w f. subst (λ (y : Otherwise). (d (later now (y .ms)) ≡ y .decision) × (y .decision ≢ d now))
+            (Option·some-injective _ _ f) (ap d there, turned);
         same = λ w f. subst (λ (y : Otherwise). (k : ℕ) → k < y .ms → d (later now k) ≡ d now) (Option·some-injective _ _ f)
             (λ k b. r .same-side (later now k) now (omega arith) from (n .still (later now k) (omega arith) (omega arith)));
         never = λ f. absurd (Option·none-ne-some _ (sym f));
@@ -197,8 +197,8 @@ module _ (g : Lent) (s : Settings) (now : Stamp) (x : Resting) (i : Input) (from
           let turned : d (at (v .0 - 1)) ≢ d now =
           r .other-side (at (v .0 - 1)) now (omega arith) from (l .one-less (at (v .0 - 1)) (omega arith)) in
           record {
-            other = λ w f. subst (λ (y : Otherwise). (d (sooner now (y .ms)) ≡ y .decision) × (y .decision ≢ d now)) (Option·some-injective _ _ f)
-                (ap d there, turned);
+            other = λ w f. subst (λ (y : Otherwise). (d (sooner now (y .ms)) ≡ y .decision) × (y .decision ≢ d now))
+                (Option·some-injective _ _ f) (ap d there, turned);
             same = λ w f. subst (λ (y : Otherwise). (k : ℕ) → k < y .ms → d (sooner now k) ≡ d now) (Option·some-injective _ _ f)
                 (λ k c. r .same-side (sooner now k) now (omega (arith, l .by-now)) from
                 (l .still (sooner now k) (omega (arith, l .by-now)) (omega arith)));

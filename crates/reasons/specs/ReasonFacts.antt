@@ -8,7 +8,7 @@ use mathlib.Core.Option.{Option, none, some}
 use mathlib.Core.Path.{_≡_}
 use Rattle.rules.specs.Numbers.{in-range}
 use Rattle.rules.specs.Pairs.{Lent, lent-good}
-use Rattle.rules.specs.States.{at, later, deadline}
+use Rattle.rules.specs.States.{at, later, deadline, well-formed}
 use Rattle.rules.specs.OneEvent.{Done, _leaving_, late as late-line, act, due-by, one-event}
 use Rattle.rules.specs.GivenBack.{input, acts-as, accepted, judge, Answer, step}
 use Rattle.rules.specs.Sequences.{items}
@@ -104,9 +104,15 @@ True-margins =
 
 -- Of an accepted event at a machine: its reasons, and that they are true.
 pub record TrueReasons (g : Lent) (m : Machine) (e : Event) : Type 0 where
-  -- what it acts as
+  pub good-list : lent-good g ≡ true
+  pub good-machine : well-formed g m ≡ true
+  -- what its kind and key name, and what that acts as
+  pub names : Input
+  pub is-input : input (e .kind) (e .key) ≡ some names
   pub acts : Input
+  pub acts-so : acts ≡ acts-as (m .held) names
   pub is-accepted : judge g m e ≡ accepted acts
+  pub its-step : step g m e .items ≡ one-event g (m .settings) (e .stamp) (m .resting) acts .items
   pub its-reasons : step-reasons g m e ≡ reasoned g (m .settings) (e .stamp) (m .resting) acts
   pub its-items : SameItems g m e
   pub its-cause : TrueCause g (m .settings) (e .stamp) (m .resting) acts

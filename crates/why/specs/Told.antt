@@ -2,23 +2,27 @@
 -- stamps before and behind the event at which it would have been decided otherwise. What is decided there the engine says.
 use Prim.Native.Nat.{ℕ}
 use mathlib.Core.Bool.{Bool, true}
-use mathlib.Core.List.{List}
+use mathlib.Core.List.{List, map}
 use mathlib.Core.Option.{Option}
 use mathlib.Core.Path.{_≡_}
 use Rattle.rules.specs.Choice.{if_then_else_}
 use Rattle.rules.specs.Pairs.{Lent, lent-good}
 use Rattle.rules.specs.States.{well-formed}
 use Rattle.rules.specs.OneEvent.{due-by}
+use Rattle.rules.specs.GivenBack.{acts-as, step}
 use Rattle.rules.specs.Distance.{distance-to}
 use Rattle.rules.specs.declared.Stamp.{Stamp}
 use Rattle.rules.specs.declared.Settings.{Settings}
 use Rattle.rules.specs.declared.Resting.{Resting}
 use Rattle.rules.specs.declared.Machine.{Machine}
+use Rattle.rules.specs.declared.Event.{Event}
 use Rattle.rules.specs.declared.Input.{Input}
 use Rattle.pairs.specs.Lent.{lent}
 use Rattle.pairs.specs.declared.Times.{Times}
 use Rattle.reasons.specs.Turning.{since, next-turn, last-turn}
 use Rattle.reasons.specs.Reason.{late, by, Test, nothing-compared, compared, sooner-at, if-sooner, if-later, Reason, reason}
+use Rattle.reasons.specs.Reason.{with-reason, step-reasons}
+use Rattle.states.specs.Meant.{meant}
 use Rattle.margins.specs.Views.{when, test, of-times}
 use Rattle.margins.specs.Capped.{turns-at-most}
 use Rattle.why.specs.FromDistance.{deadline-asked}
@@ -74,3 +78,12 @@ Reason-told =
     (l : List ℕ) (t : Times) → lent-good (lent l t) ≡ true → (m : Machine) → well-formed (lent l t) m ≡ true → (now : Stamp) (i : Input)
     → read (lent l t) (m .settings) now (m .resting) i (numbers-at-most (lent l t) (of-times t) m now i)
     ≡ reason (lent l t) (m .settings) now (m .resting) i
+
+-- Of an event that a machine accepts: its committed items, each with the reason that is read off the code's numbers, are its reasons.
+abbrev pub Reasons-told : Type 0
+Reasons-told =
+    (l : List ℕ) (t : Times) (m : Machine) (e : Event) → step (lent l t) m e .number ≡ 0
+    → let i = acts-as (m .held) (meant (e .kind) (e .key)) in
+    let told = numbers-at-most (lent l t) (of-times t) m (e .stamp) i in
+    map (with-reason (read (lent l t) (m .settings) (e .stamp) (m .resting) i told)) (step (lent l t) m e .items)
+    ≡ step-reasons (lent l t) m e
