@@ -1,0 +1,4 @@
+pub mod Turning
+pub mod Reason
+pub mod ReasonFacts
+pub mod Examples

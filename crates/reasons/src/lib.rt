@@ -1,0 +1,1 @@
+// Why an item was committed: definitions and laws alone.

@@ -1,0 +1,3 @@
+pub mod Casts
+pub mod FromDistance
+pub mod Told

@@ -1,0 +1,2 @@
+pub mod FromDistance
+pub mod Told
