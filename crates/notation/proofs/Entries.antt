@@ -107,42 +107,66 @@ module _ (l : Log) where
   unfolding stroke-text following from step entry-step at-sign digit-value takes-letters is-digit is-blank ends-entry with-sign
   left-down =
       record {
-        field-before = Start; number-before = 0; signs-before = packed "L@"; passes = record { goes-on = λ rest. refl }; announces = refl;
+        field-before = Start;
+        number-before = 0;
+        signs-before = packed "L@";
+        passes = record { goes-on = λ rest. refl };
+        announces = refl;
       }
 
   right-down : Stroke 3 1 l
   unfolding stroke-text following from step entry-step at-sign digit-value takes-letters is-digit is-blank ends-entry with-sign
   right-down =
       record {
-        field-before = Start; number-before = 0; signs-before = packed "R@"; passes = record { goes-on = λ rest. refl }; announces = refl;
+        field-before = Start;
+        number-before = 0;
+        signs-before = packed "R@";
+        passes = record { goes-on = λ rest. refl };
+        announces = refl;
       }
 
   left-up : Stroke 4 0 l
   unfolding stroke-text following from step entry-step at-sign digit-value takes-letters is-digit is-blank ends-entry with-sign
   left-up =
       record {
-        field-before = Start; number-before = 0; signs-before = packed "Lup@"; passes = record { goes-on = λ rest. refl }; announces = refl;
+        field-before = Start;
+        number-before = 0;
+        signs-before = packed "Lup@";
+        passes = record { goes-on = λ rest. refl };
+        announces = refl;
       }
 
   right-up : Stroke 4 1 l
   unfolding stroke-text following from step entry-step at-sign digit-value takes-letters is-digit is-blank ends-entry with-sign
   right-up =
       record {
-        field-before = Start; number-before = 0; signs-before = packed "Rup@"; passes = record { goes-on = λ rest. refl }; announces = refl;
+        field-before = Start;
+        number-before = 0;
+        signs-before = packed "Rup@";
+        passes = record { goes-on = λ rest. refl };
+        announces = refl;
       }
 
   function-down : Stroke 5 0 l
   unfolding stroke-text following from step entry-step at-sign digit-value takes-letters is-digit is-blank ends-entry with-sign
   function-down =
       record {
-        field-before = Start; number-before = 0; signs-before = packed "fn@"; passes = record { goes-on = λ rest. refl }; announces = refl;
+        field-before = Start;
+        number-before = 0;
+        signs-before = packed "fn@";
+        passes = record { goes-on = λ rest. refl };
+        announces = refl;
       }
 
   tick : Stroke 6 0 l
   unfolding stroke-text following from step entry-step at-sign digit-value takes-letters is-digit is-blank ends-entry with-sign
   tick =
       record {
-        field-before = Start; number-before = 0; signs-before = packed "tick"; passes = record { goes-on = λ rest. refl }; announces = refl;
+        field-before = Start;
+        number-before = 0;
+        signs-before = packed "tick";
+        passes = record { goes-on = λ rest. refl };
+        announces = refl;
       }
 
   none-allowed : (i : Input) {A : Type 0} → _≡_ {A = Option Input} none (some i) → A
@@ -170,25 +194,25 @@ module _ (l : Log) where
       (λ n6. none-allowed i (rw (n1, n2, n3, n4, n5, n6) at e)))))))
 
 module _ (r : List ℕ) (bytes : Bytes r) (long : length r ≡ stated r) (before : List ℕ) where
-  abbrev at-start : Log
+  abbrev pub at-start : Log
   at-start = record { records = before; body = [] }
 
-  abbrev with-record : Log
+  abbrev pub with-record : Log
   with-record = record { records = before ++ r; body = [] }
 
-  abbrev so-far : ℕ → Log
+  abbrev pub so-far : ℕ → Log
   so-far at = log-to r bytes long before at
 
   -- one of the record's numbers, n bytes at a place: the number before it goes into the log, and this one is read
   module _ (g f : Field) (v s n at : ℕ) (announced : following g v s ≡ Reads f (push (suc n) v)) (e : v ≡ number (suc n) at r)
-        (h : 3 ≤ at) (fits : at + suc n ≤ length r) where
+      (h : 3 ≤ at) (fits : at + suc n ≤ length r) where
     field-passes : base f ≡ 10 → (x : ℕ) → x ≤ most f → x < 100_000_000_000_000_000_000
         → Passes (behind g v s) (so-far at) (decimal x) (reading f x) (so-far (at + suc n))
     field-passes tens x small short =
         rw (log-grows r bytes long before n at v h fits e) at (number-passes g v s (so-far at) f (suc n) v announced tens x small short)
 
   module _ (is : is-settings r ≡ true) where
-    settings-tag : tag r ≡ 1
+    pub settings-tag : tag r ≡ 1
     unfolding is-settings
     settings-tag = eqb-true (tag r) 1 (and-eq-true-iff (eqb (tag r) 1) (eqb (length r) 8) .0 is .0)
 
@@ -200,7 +224,7 @@ module _ (r : List ℕ) (bytes : Bytes r) (long : length r ≡ stated r) (before
     unfolding from step entry-step at-sign digit-value takes-letters is-digit is-blank ends-entry with-sign
     T-said = record { goes-on = λ rest. refl }
 
-    settings-pass : Passes start (so-far 3) (settings-text (settings r)) start with-record
+    pub settings-pass : Passes start (so-far 3) (settings-text (settings r)) start with-record
     unfolding settings-text settings following
     settings-pass =
         let t = number 2 3 r in
@@ -219,7 +243,7 @@ module _ (r : List ℕ) (bytes : Bytes r) (long : length r ≡ stated r) (before
         and-on log-ends r bytes long before Solo 0 0 7 solo refl settings-tag (omega arith) (omega arith) (omega arith)
 
   module _ (is : is-event r ≡ true) (i : Input) (allowed : input (byte 3 r) (record { 0 = byte 4 r }) ≡ some i) where
-    event-tag : tag r ≡ 2
+    pub event-tag : tag r ≡ 2
     unfolding is-event
     event-tag = eqb-true (tag r) 2 (and-eq-true-iff (eqb (tag r) 2) (eqb (length r) 13) .0 is .0)
 
@@ -230,19 +254,19 @@ module _ (r : List ℕ) (bytes : Bytes r) (long : length r ≡ stated r) (before
     stamp-most : number 8 5 r ≤ 18_446_744_073_709_551_615
     stamp-most = omega (arith, bytes 5, bytes 6, bytes 7, bytes 8, bytes 9, bytes 10, bytes 11, bytes 12)
 
-    event-pass : Passes start (so-far 3) (event-text (event r)) start with-record
+    pub event-pass : Passes start (so-far 3) (event-text (event r)) start with-record
     unfolding event-text event
     event-pass =
         let few : length r ≡ 13 = event-long in
         let stamp = number 8 5 r in
         let s = stroke (so-far 3) (byte 3 r) (byte 4 r) (omega (arith, bytes 4)) i allowed in
         let known = rw (log-grows r bytes long before 1 3 (byte 3 r * 256 + byte 4 r) (omega arith) (omega arith) (omega arith))
-            at (number-passes (s .field-before) (s .number-before) (s .signs-before) (so-far 3) Stamp 2 (byte 3 r * 256 + byte 4 r) (s .announces) refl
-            stamp stamp-most (omega (arith, stamp-most))) in
+        at (number-passes (s .field-before) (s .number-before) (s .signs-before) (so-far 3) Stamp 2 (byte 3 r * 256 + byte 4 r) (s .announces) refl
+        stamp stamp-most (omega (arith, stamp-most))) in
         s .passes and-on known and-on log-ends r bytes long before Stamp 1 7 5 stamp refl event-tag (omega arith) (omega arith) refl
 
   module _ (is : is-list r ≡ true) where
-    list-tag : tag r ≡ 3
+    pub list-tag : tag r ≡ 3
     list-tag = list-facts r is .0
 
     byte-is : (at : ℕ) → byte at r ≡ number 1 at r
@@ -265,7 +289,7 @@ module _ (r : List ℕ) (bytes : Bytes r) (long : length r ≡ stated r) (before
         let two : p + 1 + 1 ≡ p + 2 = omega arith in
         let four : p + 2 + 2 ≡ p + 4 = omega arith in
         let third = rw (log-grows r bytes long before 0 (p + 1) second (omega arith) (omega arith) (byte-is (p + 1)))
-            at (code-point-passes second (so-far (p + 1)) character (two-small (p + 2))) in
+        at (code-point-passes second (so-far (p + 1)) character (two-small (p + 2))) in
         let more = pairs-pass k Character character 1 (p + 2) refl refl refl (omega arith) (omega arith) in
         rw (append-assoc (pair-text (pair-at p r)) (pairs-text (pairs-from k (p + 4) r)) lines.line-end)
         (blank-said v (so-far at) f
@@ -281,7 +305,7 @@ module _ (r : List ℕ) (bytes : Bytes r) (long : length r ≡ stated r) (before
     unfolding from step entry-step at-sign digit-value takes-letters is-digit is-blank ends-entry with-sign
     Ts-said = record { goes-on = λ rest. refl }
 
-    list-pass : Passes start (so-far 3) (list-text (list r)) start with-record
+    pub list-pass : Passes start (so-far 3) (list-text (list r)) start with-record
     unfolding list-text list following
     list-pass =
         let ts = number 2 3 r in
@@ -289,7 +313,7 @@ module _ (r : List ℕ) (bytes : Bytes r) (long : length r ≡ stated r) (before
         let k = (length r - 6) / 4 in
         let fits : 6 + 4 * k ≡ length r = omega (arith, list-facts r is) in
         let head = Ts-said
-            and-on number-passes Start 0 (packed "T_s=") (so-far 3) Ts 0 0 refl refl ts (two-small 3) (omega (arith, two-small 3))
-            and-on N-said ts (so-far 3)
-            and-on field-passes Ts N ts (packed "N=") 1 3 refl refl (omega arith) (omega arith) refl n (omega (arith, bytes 5)) (omega (arith, bytes 5)) in
+        and-on number-passes Start 0 (packed "T_s=") (so-far 3) Ts 0 0 refl refl ts (two-small 3) (omega (arith, two-small 3))
+        and-on N-said ts (so-far 3)
+        and-on field-passes Ts N ts (packed "N=") 1 3 refl refl (omega arith) (omega arith) refl n (omega (arith, bytes 5)) (omega (arith, bytes 5)) in
         rw append-assoc (head and-on pairs-pass k N n 0 5 refl refl (byte-is 5) (omega arith) fits)

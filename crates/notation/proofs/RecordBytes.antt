@@ -80,7 +80,7 @@ module _ (r : List ℕ) (bytes : Bytes r) where
           ap (λ (l : List ℕ). record { records = before; body = l }) (rw (e, ne-eqb (suc n) 0 (λ z. omega arith)) (body-grows (suc n) at h fits))
 
       module _ (f : Field) (t n at v : ℕ) (ends : whole f v start ≡ Next start (last (suc t) (suc n) v)) (tagged : tag r ≡ suc t)
-            (h : 3 ≤ at) (fits : at + suc n ≡ length r) (e : v ≡ number (suc n) at r) where
+          (h : 3 ≤ at) (fits : at + suc n ≡ length r) (e : v ≡ number (suc n) at r) where
         whole-body : body-to at ++ bytes-of (suc n) v ≡ drop 3 r
         whole-body =
             rw e (body-grows (suc n) at h (omega arith)) ∙ ap (drop 3) (take-all (at + suc n) r (omega arith))
