@@ -1,5 +1,5 @@
 -- The text of a record that the reader accepts is transcribed to that record.
-use Prim.Native.Nat.{ℕ, zero, suc, _+_, _-_, _*_, _/_, _≤_, _<_}
+use Prim.Native.Nat.{ℕ, zero, suc, _+_, _-_, _*_, _/_, _%_, _≤_, _<_}
 use native.Mathlib.Omega.{arith}
 use borrow.Author.Tests.{eqb-true}
 use mathlib.Core.Bool.{Bool, true, false, and-eq-true-iff}
@@ -260,8 +260,8 @@ module _ (r : List ℕ) (bytes : Bytes r) (long : length r ≡ stated r) (before
         let few : length r ≡ 13 = event-long in
         let stamp = number 8 5 r in
         let s = stroke (so-far 3) (byte 3 r) (byte 4 r) (omega (arith, bytes 4)) i allowed in
-        let known = rw (log-grows r bytes long before 1 3 (byte 3 r * 256 + byte 4 r) (omega arith) (omega arith) (omega arith))
-        at (number-passes (s .field-before) (s .number-before) (s .signs-before) (so-far 3) Stamp 2 (byte 3 r * 256 + byte 4 r) (s .announces) refl
+        let known = rw (log-grows r bytes long before 1 3 (byte 3 r * 256 + byte 4 r % 256) (omega arith) (omega arith) (omega (arith, bytes 4)))
+        at (number-passes (s .field-before) (s .number-before) (s .signs-before) (so-far 3) Stamp 2 (byte 3 r * 256 + byte 4 r % 256) (s .announces) refl
         stamp stamp-most (omega (arith, stamp-most))) in
         s .passes and-on known and-on log-ends r bytes long before Stamp 1 7 5 stamp refl event-tag (omega arith) (omega arith) refl
 
