@@ -1,0 +1,23 @@
+-- `transcribe` meets its contract.
+use borrow.Author.Needs.{needs}
+use mathlib.Core.Path.{sym}
+use lib.Seq.{length-take-le}
+use Rattle.transcriber.proofs.Answers.{unread, place-inside, no-room-answered, has-room, wrong-answered, log-answered}
+use Rattle.transcriber.proofs.transcribe.Statement.{statement}
+use Rattle.transcriber.proofs.transcribe.Tie as tie
+
+pub transcribe-spec : {M : Type 1} → statement M
+transcribe-spec =
+    tie.close
+    (tie.spec
+    (λ c. search (unread, needs))
+    (λ c κs. search needs)
+    (λ c. search needs)
+    (λ c. sym (length-take-le _ _ (search (place-inside, needs))))
+    (λ c κs. search needs)
+    (λ c. search needs)
+    (λ c. search (no-room-answered, needs))
+    (λ c κs. has-room _ _ (c .before .before .before .before .before .before .if1 .left) _ (c .before .before .before .before .before .measure .ensures .0) _ (c .before .before .before .size .given .1) (c .before .if2 .left))
+    (λ c. search (wrong-answered, needs))
+    (λ c. search needs)
+    (λ c. log-answered _ _ (c .before .before .before .before .before .before .before .before .before .if1 .left) _ (c .before .before .before .before .before .before .before .before .measure .ensures .0) _ _ (c .before .before .before .before .before .before .size .given .1) (c .before .before .before .before .if2 .left) (c .before .before .put-log .ensures)))
