@@ -13,7 +13,8 @@ use lib.Seq.{take-at}
 use Rattle.rules.specs.Choice.{if_then_else_}
 use Rattle.rules.specs.Pairs.{Lent, lent-good, no-pairs}
 use Rattle.rules.specs.States.{well-formed, opening}
-use Rattle.rules.specs.GivenBack.{input, Verdict, refused as refused-event, accepted as accepted-event, judge-input, judge, answer, step-with}
+use Rattle.rules.specs.GivenBack.{input, Verdict, refused as refused-event, accepted as accepted-event, judge-input, judge, answer}
+use Rattle.rules.specs.GivenBack.{step-with}
 use Rattle.rules.specs.declared.Machine.{Machine}
 use Rattle.rules.specs.declared.Event.{Event}
 use Rattle.rules.specs.declared.Input.{Input}

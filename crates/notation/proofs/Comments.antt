@@ -13,7 +13,8 @@ use Rattle.numbers.specs.Decimals.{is-digit}
 use Rattle.status.specs.Decimal.{places, decimal}
 use Rattle.status.specs.Status.{status}
 use Rattle.notation.specs.Notation.{meaning, refusal-text}
-use Rattle.notation.specs.Transcribing.{start, in-comment, takes-letters, digit-value, is-blank, ends-entry, ended, at-sign, entry-step, step, Log, from}
+use Rattle.notation.specs.Transcribing.{start, in-comment, takes-letters, digit-value, is-blank, ends-entry, ended, at-sign}
+use Rattle.notation.specs.Transcribing.{entry-step, step, Log, from}
 use Rattle.notation.proofs.Passing.{Passes, _and-on_, stays}
 
 module _ (l : Log) where

@@ -22,7 +22,8 @@ use Rattle.mender.proofs.Laws.{mend-laws}
 use Rattle.mender.proofs.LogParts.{Wholes}
 use Rattle.notation.specs.Notation.{record-text, texts, refusal-text, whole-reading, accepted-front, notated}
 use Rattle.notation.specs.RoundTrip.{Bytes, Round-trip}
-use Rattle.notation.specs.Transcribing.{start, empty, takes-letters, digit-value, is-blank, ends-entry, ended, at-sign, entry-step, step}
+use Rattle.notation.specs.Transcribing.{start, empty, takes-letters, digit-value, is-blank, ends-entry, ended, at-sign, entry-step}
+use Rattle.notation.specs.Transcribing.{step}
 use Rattle.notation.specs.Transcribing.{Log, Transcript, log, from, transcribed}
 use Rattle.notation.proofs.Passing.{Passes, _and-on_, stays}
 use Rattle.notation.proofs.RecordBytes.{log-begins}
@@ -83,7 +84,8 @@ module _ (l : List ℕ) (bytes : Bytes l) where
       let f : Front front = front-records (length l) l in
       let here : Bytes (joined (records-of front)) = rw (f .joined-are) (bytes-taken (whole-reading l .offset) l bytes) in
       let records = texts-pass (records-of front) [] here (f .wholes) (f .records-are) in
-      let refusal = refusal-passes (whole-log (joined (records-of front))) (number-of (whole-reading l .refusal)) (whole-reading l .offset) in
+      let refusal = refusal-passes (whole-log (joined (records-of front))) (number-of (whole-reading l .refusal))
+          (whole-reading l .offset) in
       transcribed-as _ front (rw (f .joined-are) at (records and-on refusal))
 
   -- what is accepted with some room is accepted with enough
@@ -98,7 +100,8 @@ module _ (l : List ℕ) (bytes : Bytes l) where
 
   whole-back : (room : ℕ) → Accepts (read room l) → transcribed (notated l) ≡ log l
   whole-back room a =
-      let all : accepted-front l ≡ l = take-all (whole-reading l .offset) l (omega (arith, all-passed (length l) l (accepted-whole room a))) in
+      let all : accepted-front l ≡ l = take-all (whole-reading l .offset) l (omega (arith,
+          all-passed (length l) l (accepted-whole room a))) in
       front-back ∙ ap log all
 
 pub round-trip : Round-trip

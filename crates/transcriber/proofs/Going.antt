@@ -12,7 +12,8 @@ use lib.Seq.{drop-cons, drop-length, getD-at}
 use Rattle.rules.proofs.Choices.{by-test, either}
 use Rattle.writer.specs.Drills.{record-of}
 use Rattle.notation.specs.Transcribing as notation
-use Rattle.notation.specs.Transcribing.{line-end, longest-body, start, empty, step, Log, body-with, overlong, Transcript, log, wrong, taken, from, transcribed}
+use Rattle.notation.specs.Transcribing.{line-end, longest-body, start, empty, step, Log, body-with, overlong, Transcript, log, wrong, taken}
+use Rattle.notation.specs.Transcribing.{from, transcribed}
 use Rattle.notation.specs.declared.Progress.{Progress}
 use Rattle.notation.specs.declared.Output.{Output}
 use Rattle.notation.specs.declared.Expected.{Expected}
@@ -65,7 +66,8 @@ module _ (l : Log) (records body : ℕ) (counts : Counts l records body) (b : �
       (λ over. rw (too-late w over) at e)
       (λ fits. record {
         counts = rw w (record {
-          records-are = omega (arith, length-append (l .records) (record-of (o .tag) (body-with l o)), record-long (o .tag) (body-with l o), long, counts .records-are);
+          records-are = omega (arith, length-append (l .records) (record-of (o .tag) (body-with l o)), record-long (o .tag) (body-with l o),
+              long, counts .records-are);
           body-is = refl;
         });
         left = rw (short-enough w fits) at e;
@@ -73,7 +75,8 @@ module _ (l : Log) (records body : ℕ) (counts : Counts l records body) (b : �
         ends = ends;
       }))
 
-  step-turned : (st : Step) → Keeps l st → (b ≡ line-end → Ends st) → t ≡ taken st l (length rest) (λ q m. from q m rest) → Turned l b rest t (by-step records body st)
+  step-turned : (st : Step) → Keeps l st → (b ≡ line-end → Ends st) → t ≡ taken st l (length rest) (λ q m. from q m rest)
+      → Turned l b rest t (by-step records body st)
   step-turned (steps.Wrong e) k ends is = is
   step-turned (steps.Next p o) k ends is = output-turned p o k ends is
 
@@ -126,7 +129,8 @@ module _ (text : List ℕ) (s : State) (i : ℕ) (l : Log) (at : At text s i l) 
       let next : drop i (all-of text) ≡ b ∷ rest =
       drop-cons (all-of text) i line-end (omega (arith, all-long text))
       ∙ ap (λ (x : ℕ). x ∷ rest) (byte-is text i more ∙ sym is) in
-      step-turned l (s .records) (s .body) (at .counts) b rest (transcribed text) (step (s .progress) b) (step-keeps l (s .progress) (at .sane) b)
+      step-turned l (s .records) (s .body) (at .counts) b rest (transcribed text) (step (s .progress) b) (step-keeps l (s .progress)
+          (at .sane) b)
       (λ e. rw e (line-ends (s .progress)))
       (rw next at (at .left))
 
@@ -178,7 +182,8 @@ module _ (text : List ℕ) (short : length text ≤ longest-text) where
 
       pub measuring-on : (next : State) (o : Output) → a ≡ Next next o → Slow (s .records + s .body) a → Measuring text next (i + 1)
       measuring-on next o q slow =
-          record { log-so-far = notation.with-output (m .log-so-far) o; here = goes-on text s i (m .log-so-far) (m .here) more b is a next o p q slow }
+          record { log-so-far = notation.with-output (m .log-so-far) o; here = goes-on text s i (m .log-so-far)
+              (m .here) more b is a next o p q slow }
 
     pub measured-all : length text < i
         → (sizes.Size (s .records) ≡ measured (length text) (transcribed text)) × Within (length text) (sizes.Size (s .records))

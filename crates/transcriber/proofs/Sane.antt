@@ -13,7 +13,8 @@ use Rattle.keylog.specs.Records.{bytes-of}
 use Rattle.keylog.proofs.Bytes.{length-bytes-of}
 use Rattle.writer.specs.Drills.{record-of}
 use Rattle.notation.specs.Transcribing as notation
-use Rattle.notation.specs.Transcribing.{no-signs, is-blank, ends-entry, begins-comment, line-end, packed, base, most, nothing, takes-letters, digit-value}
+use Rattle.notation.specs.Transcribing.{no-signs, is-blank, ends-entry, begins-comment, line-end, packed, base, most, nothing}
+use Rattle.notation.specs.Transcribing.{takes-letters, digit-value}
 use Rattle.notation.specs.Transcribing.{following, between, reading, grown, begun, whole, ended, at-digit, at-sign, entry-step, step}
 use Rattle.notation.specs.Transcribing.{Log, body-with, overlong, with-output, Transcript, log, wrong, taken, from}
 use Rattle.notation.proofs.Passing.{no-digit-10}

@@ -17,7 +17,14 @@ transcribe-spec =
     (λ c κs. search needs)
     (λ c. search needs)
     (λ c. search (no-room-answered, needs))
-    (λ c κs. has-room _ _ (c .before .before .before .before .before .before .if1 .left) _ (c .before .before .before .before .before .measure .ensures .0) _ (c .before .before .before .size .given .1) (c .before .if2 .left))
+    (λ c κs.
+    let known = c .before .before .before in
+    has-room _ _ (known .before .before .before .if1 .left) _ (known .before .before .measure .ensures .0) _ (known .size .given .1)
+    (c .before .if2 .left))
     (λ c. search (wrong-answered, needs))
     (λ c. search needs)
-    (λ c. log-answered _ _ (c .before .before .before .before .before .before .before .before .before .if1 .left) _ (c .before .before .before .before .before .before .before .before .measure .ensures .0) _ _ (c .before .before .before .before .before .before .size .given .1) (c .before .before .before .before .if2 .left) (c .before .before .put-log .ensures)))
+    (λ c.
+    let put = c .before .before in
+    let known = put .before .before .before .before in
+    log-answered _ _ (known .before .before .before .if1 .left) _ (known .before .before .measure .ensures .0) _ _ (known .size .given .1)
+    (put .before .before .if2 .left) (put .put-log .ensures)))

@@ -23,7 +23,11 @@ measure-spec =
     (λ c κs. search needs)
     (λ c κs. search (sizes-small, needs))
     (λ c. search needs)
-    (λ c. wrong-measured _ (c .before .before .before .before .before .before .before .before .before .pre) _ _ (c .before .before .before .before .before .before .loop .inv) (c .before .before .before .before .before .loop-test .taken) _ (c .before .before .before .before .byte-at .ensures) _ (c .before .before .before .advance .ensures .0) _ (c .before .expected .given .1))
+    (λ c.
+    let advanced = c .before .before .before in
+    let tested = advanced .before .before in
+    wrong-measured _ (tested .before .before .before .before .pre) _ _ (tested .before .loop .inv) (tested .loop-test .taken) _
+    (advanced .before .byte-at .ensures) _ (advanced .advance .ensures .0) _ (c .before .expected .given .1))
     (λ c. search needs)
     (λ c. search needs)
     (λ c. search needs)
