@@ -10,7 +10,7 @@ pub enum Number {
 
 const LARGEST: u32 = 65535;
 
-fn digit(b: u8) -> bool
+pub fn digit(b: u8) -> bool
     ensures { λ r. ⌜ r ≡ is-digit b ⌝ }
 {
     if b'0' <= b {

@@ -1,0 +1,4 @@
+pub mod Transcribing
+pub mod Notation
+pub mod Examples
+pub mod RoundTrip
