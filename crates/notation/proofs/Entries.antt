@@ -235,17 +235,22 @@ module _ (r : List ℕ) (bytes : Bytes r) (long : length r ≡ stated r) (before
         let solo = byte 7 r in
         let few : length r ≡ 8 = settings-long in
         T-said
-        and-on number-passes Start 0 (packed "T=") (so-far 3) T 0 0 refl refl t (omega (arith, bytes 3, bytes 4)) (omega (arith, bytes 3,
-            bytes 4))
+        and-on number-passes Start 0 (packed "T=") (so-far 3) T 0 0 refl refl t (omega (arith, bytes 3, bytes 4)) (omega (
+          arith,
+          bytes 3,
+          bytes 4,
+        ))
         and-on J-said t (so-far 3)
-        and-on field-passes T J t (packed "J=") 1 3 refl refl (omega arith) (omega arith) refl j (omega (arith, bytes 5)) (omega (arith,
-            bytes 5))
+        and-on field-passes T J t (packed "J=") 1 3 refl refl (omega arith) (omega arith) refl j (omega (arith, bytes 5)) (omega (
+          arith,
+          bytes 5,
+        ))
         and-on L-said j (so-far 5)
         and-on field-passes J L j (packed "L=") 0 5 refl (omega arith) (omega arith) (omega arith) refl l (omega (arith, bytes 6))
-            (omega (arith, bytes 6))
+        (omega (arith, bytes 6))
         and-on solo-said l (so-far 6)
         and-on field-passes L Solo l (packed "solo=") 0 6 refl (omega arith) (omega arith) (omega arith) refl solo (omega (arith, bytes 7))
-            (omega (arith, bytes 7))
+        (omega (arith, bytes 7))
         and-on log-ends r bytes long before Solo 0 0 7 solo refl settings-tag (omega arith) (omega arith) (omega arith)
 
   module _ (is : is-event r ≡ true) (i : Input) (allowed : input (byte 3 r) (record { 0 = byte 4 r }) ≡ some i) where
@@ -266,10 +271,12 @@ module _ (r : List ℕ) (bytes : Bytes r) (long : length r ≡ stated r) (before
         let few : length r ≡ 13 = event-long in
         let stamp = number 8 5 r in
         let s = stroke (so-far 3) (byte 3 r) (byte 4 r) (omega (arith, bytes 4)) i allowed in
-        let known = rw (log-grows r bytes long before 1 3 (byte 3 r * 256 + byte 4 r % 256) (omega arith) (omega arith) (omega (arith,
-            bytes 4)))
+        let known = rw (log-grows r bytes long before 1 3 (byte 3 r * 256 + byte 4 r % 256) (omega arith) (omega arith) (omega (
+          arith,
+          bytes 4,
+        )))
         at (number-passes (s .field-before) (s .number-before) (s .signs-before) (so-far 3) Stamp 2 (byte 3 r * 256 + byte 4 r % 256)
-            (s .announces) refl
+        (s .announces) refl
         stamp stamp-most (omega (arith, stamp-most))) in
         s .passes and-on known and-on log-ends r bytes long before Stamp 1 7 5 stamp refl event-tag (omega arith) (omega arith) refl
 
@@ -323,6 +330,8 @@ module _ (r : List ℕ) (bytes : Bytes r) (long : length r ≡ stated r) (before
         let head = Ts-said
         and-on number-passes Start 0 (packed "T_s=") (so-far 3) Ts 0 0 refl refl ts (two-small 3) (omega (arith, two-small 3))
         and-on N-said ts (so-far 3)
-        and-on field-passes Ts N ts (packed "N=") 1 3 refl refl (omega arith) (omega arith) refl n (omega (arith, bytes 5)) (omega (arith,
-            bytes 5)) in
+        and-on field-passes Ts N ts (packed "N=") 1 3 refl refl (omega arith) (omega arith) refl n (omega (arith, bytes 5)) (omega (
+          arith,
+          bytes 5,
+        )) in
         rw append-assoc (head and-on pairs-pass k N n 0 5 refl refl (byte-is 5) (omega arith) fits)

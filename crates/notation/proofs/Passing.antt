@@ -109,8 +109,12 @@ letter-is d h =
     (λ t. let k : d < 10 = ltb-true d 10 t in
     rw (le-leb 48 (48 + d) (omega arith), le-leb (48 + d) 57 (omega arith)) (omega arith))
     (λ f. let k : 10 ≤ d = ltb-false d 10 f in
-    rw (le-leb 48 (55 + d) (omega arith), lt-leb (55 + d) 57 (omega arith), le-leb 65 (55 + d) (omega arith),
-        le-leb (55 + d) 70 (omega arith)) (omega arith))
+    rw (
+      le-leb 48 (55 + d) (omega arith),
+      lt-leb (55 + d) 57 (omega arith),
+      le-leb 65 (55 + d) (omega arith),
+      le-leb (55 + d) 70 (omega arith),
+    ) (omega arith))
 
 module _ (n : ℕ) (l : Log) where
   pub code-point-passes : (x : ℕ) → x ≤ 65_535

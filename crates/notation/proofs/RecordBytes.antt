@@ -79,7 +79,7 @@ module _ (r : List ℕ) (bytes : Bytes r) where
           → with-output (log-to at) (push (suc n) v) ≡ log-to (at + suc n)
       log-grows n at v h fits e =
           ap (λ (l : List ℕ). record { records = before; body = l }) (rw (e, ne-eqb (suc n) 0 (λ z. omega arith))
-              (body-grows (suc n) at h fits))
+          (body-grows (suc n) at h fits))
 
       module _ (f : Field) (t n at v : ℕ) (ends : whole f v start ≡ Next start (last (suc t) (suc n) v)) (tagged : tag r ≡ suc t)
           (h : 3 ≤ at) (fits : at + suc n ≡ length r) (e : v ≡ number (suc n) at r) where
@@ -92,8 +92,13 @@ module _ (r : List ℕ) (bytes : Bytes r) where
         log-ends =
             record {
               goes-on = λ rest.
-                  rw (no-digit-10 (takes-letters (reading f v)), ends, ne-eqb (suc t) 0 (λ z. omega arith),
-                      ne-eqb (suc n) 0 (λ z. omega arith), whole-body)
+                  rw (
+                    no-digit-10 (takes-letters (reading f v)),
+                    ends,
+                    ne-eqb (suc t) 0 (λ z. omega arith),
+                    ne-eqb (suc n) 0 (λ z. omega arith),
+                    whole-body,
+                  )
                   (rw (le-ltb 65_535 (length (drop 3 r)) body-short)
                   (rw (← tagged, put-together)));
             }

@@ -85,7 +85,7 @@ module _ (l : List ℕ) (bytes : Bytes l) where
       let here : Bytes (joined (records-of front)) = rw (f .joined-are) (bytes-taken (whole-reading l .offset) l bytes) in
       let records = texts-pass (records-of front) [] here (f .wholes) (f .records-are) in
       let refusal = refusal-passes (whole-log (joined (records-of front))) (number-of (whole-reading l .refusal))
-          (whole-reading l .offset) in
+      (whole-reading l .offset) in
       transcribed-as _ front (rw (f .joined-are) at (records and-on refusal))
 
   -- what is accepted with some room is accepted with enough
@@ -100,8 +100,10 @@ module _ (l : List ℕ) (bytes : Bytes l) where
 
   whole-back : (room : ℕ) → Accepts (read room l) → transcribed (notated l) ≡ log l
   whole-back room a =
-      let all : accepted-front l ≡ l = take-all (whole-reading l .offset) l (omega (arith,
-          all-passed (length l) l (accepted-whole room a))) in
+      let all : accepted-front l ≡ l = take-all (whole-reading l .offset) l (omega (
+        arith,
+        all-passed (length l) l (accepted-whole room a),
+      )) in
       front-back ∙ ap log all
 
 pub round-trip : Round-trip

@@ -57,9 +57,11 @@ module _ (text run : List ℕ) where
   log-as : (t : Transcript) (size : ℕ) (after : List ℕ) → measured n t ≡ Size size → size ≤ length run → after ≡ filled (log-of t) run
       → (answers.Log size ≡ answer text (length run) t) × (after ≡ written run t)
   log-as (log l) size after is h e =
-      let long : length l ≤ length run = omega (arith, same-size (length l) size is) in
-      (rw (le-leb (length l) (length run) long) (ap answers.Log (sym (same-size (length l) size is))), rw (le-leb (length l)
-          (length run) long) e)
+      let long : length l ≤ length run = omega (arith, same-size (length l) size is) in (
+        rw (le-leb (length l) (length run) long) (ap answers.Log (sym (same-size (length l) size is))),
+        rw (le-leb (length l)
+            (length run) long) e,
+      )
   log-as (wrong left f) size after is h e = absurd (size-no-place size (n - left) f (sym is))
 
   module _ (short : length text ≤ longest-text) (m : Measured) (is : m ≡ measured (length text) (transcribed text)) where
@@ -67,7 +69,7 @@ module _ (text run : List ℕ) where
         → Transcribes text run (answers.Wrong p e) run
     wrong-answered at e p w place =
         let both = wrong-as (transcribed text) at e p (sym is ∙ w) place in read-as text run (answers.Wrong p e) run short (both .0)
-            (both .1)
+        (both .1)
 
     pub no-room-answered : (size : ℕ) → m ≡ Size size → length run < size → Transcribes text run answers.NoRoom run
     no-room-answered size s h =
@@ -77,7 +79,7 @@ module _ (text run : List ℕ) where
         → Transcribes text run (answers.Log size) after
     log-answered size after s h e =
         let both = log-as (transcribed text) size after (sym is ∙ s) h e in read-as text run (answers.Log size) after short (both .0)
-            (both .1)
+        (both .1)
 
 fits-as : (n room : ℕ) (t : Transcript) (size : ℕ) → measured n t ≡ Size size → size ≤ room → Fits t room
 fits-as n room (log l) size is h = omega (arith, same-size (length l) size is)

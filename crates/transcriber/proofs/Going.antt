@@ -66,8 +66,13 @@ module _ (l : Log) (records body : ℕ) (counts : Counts l records body) (b : �
       (λ over. rw (too-late w over) at e)
       (λ fits. record {
         counts = rw w (record {
-          records-are = omega (arith, length-append (l .records) (record-of (o .tag) (body-with l o)), record-long (o .tag) (body-with l o),
-              long, counts .records-are);
+          records-are = omega (
+            arith,
+            length-append (l .records) (record-of (o .tag) (body-with l o)),
+            record-long (o .tag) (body-with l o),
+            long,
+            counts .records-are,
+          );
           body-is = refl;
         });
         left = rw (short-enough w fits) at e;
@@ -116,7 +121,7 @@ at-begin text =
     }
 
 module _ (text : List ℕ) (s : State) (i : ℕ) (l : Log) (at : At text s i l) (more : i ≤ length text) (b : ℕ)
-      (is : b ≡ getD text i line-end) where
+    (is : b ≡ getD text i line-end) where
   abbrev rest : List ℕ
   rest = drop (suc i) (all-of text)
 
@@ -130,7 +135,7 @@ module _ (text : List ℕ) (s : State) (i : ℕ) (l : Log) (at : At text s i l) 
       drop-cons (all-of text) i line-end (omega (arith, all-long text))
       ∙ ap (λ (x : ℕ). x ∷ rest) (byte-is text i more ∙ sym is) in
       step-turned l (s .records) (s .body) (at .counts) b rest (transcribed text) (step (s .progress) b) (step-keeps l (s .progress)
-          (at .sane) b)
+      (at .sane) b)
       (λ e. rw e (line-ends (s .progress)))
       (rw next at (at .left))
 
@@ -182,8 +187,11 @@ module _ (text : List ℕ) (short : length text ≤ longest-text) where
 
       pub measuring-on : (next : State) (o : Output) → a ≡ Next next o → Slow (s .records + s .body) a → Measuring text next (i + 1)
       measuring-on next o q slow =
-          record { log-so-far = notation.with-output (m .log-so-far) o; here = goes-on text s i (m .log-so-far)
-              (m .here) more b is a next o p q slow }
+          record {
+            log-so-far = notation.with-output (m .log-so-far) o;
+            here = goes-on text s i (m .log-so-far)
+                (m .here) more b is a next o p q slow;
+          }
 
     pub measured-all : length text < i
         → (sizes.Size (s .records) ≡ measured (length text) (transcribed text)) × Within (length text) (sizes.Size (s .records))

@@ -39,9 +39,7 @@ pub fn transcribe(text: &[u8], out: &mut [u8]) -> Transcribed
         return Transcribed::Unread;
     }
     match measure(text) {
-        Measured::Wrong(at, expected) => {
-            Transcribed::Wrong(place_behind(&text[..at]), expected)
-        }
+        Measured::Wrong(at, expected) => { Transcribed::Wrong(place_behind(&text[..at]), expected) }
         Measured::Size(size) => {
             if out.len() < size {
                 return Transcribed::NoRoom;

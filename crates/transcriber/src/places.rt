@@ -33,10 +33,7 @@ fn moved(place: Place, b: u8) -> Place
 pub fn place_behind(text: &[u8]) -> Place
     ensures { λ r. ⌜ r ≡ places.behind (now (text .entry)) ⌝ }
 {
-    let mut place = Place {
-        line: 1,
-        column: 1,
-    };
+    let mut place = Place { line: 1, column: 1 };
     let mut i = 0;
     while i < text.len() {
         let next = moved(place, text[i]);

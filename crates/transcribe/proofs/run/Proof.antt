@@ -15,11 +15,16 @@ run-spec =
     (λ c. search needs)
     (λ c κs. search needs)
     (λ c. search needs)
-    (λ c. omega (arith, rw (c .before .n .given .1) at (c .before .before .before .before .read .ensures),
-        c .before .before .before .before .read .kept .0))
-    (λ c. sym (length-take-le _ _ (omega (arith,
-        rw (c .before .before .n .given .1) at (c .before .before .before .before .before .read .ensures),
-            c .before .before .before .before .before .read .kept .0))))
+    (λ c. omega (
+      arith,
+      rw (c .before .n .given .1) at (c .before .before .before .before .read .ensures),
+      c .before .before .before .before .read .kept .0,
+    ))
+    (λ c. sym (length-take-le _ _ (omega (
+      arith,
+      rw (c .before .before .n .given .1) at (c .before .before .before .before .before .read .ensures),
+      c .before .before .before .before .before .read .kept .0,
+    ))))
     (λ c. search needs)
     (λ c κs. search needs)
     (λ c. search needs)

@@ -14,7 +14,15 @@ letter-value-spec =
     (λ c. rw (le-leb 65 _ (c .before .if1 .left), le-leb _ 70 (c .if2 .taken)))
     (λ c. rw (le-leb 65 _ (c .before .before .if1 .left), lt-leb _ 70 (c .before .if2 .left), lt-leb 97 _ (c .if3 .taken)))
     (λ c. search needs)
-    (λ c. rw (le-leb 65 _ (c .before .before .before .if1 .left), lt-leb _ 70 (c .before .before .if2 .left),
-        le-leb 97 _ (c .before .if3 .left), le-leb _ 102 (c .if4 .taken)))
-    (λ c. rw (le-leb 65 _ (c .before .before .before .if1 .left), lt-leb _ 70 (c .before .before .if2 .left),
-        le-leb 97 _ (c .before .if3 .left), lt-leb _ 102 (c .if4 .left))))
+    (λ c. rw (
+      le-leb 65 _ (c .before .before .before .if1 .left),
+      lt-leb _ 70 (c .before .before .if2 .left),
+      le-leb 97 _ (c .before .if3 .left),
+      le-leb _ 102 (c .if4 .taken),
+    ))
+    (λ c. rw (
+      le-leb 65 _ (c .before .before .before .if1 .left),
+      lt-leb _ 70 (c .before .before .if2 .left),
+      le-leb 97 _ (c .before .if3 .left),
+      lt-leb _ 102 (c .if4 .left),
+    )))

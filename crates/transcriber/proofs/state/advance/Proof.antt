@@ -14,4 +14,4 @@ advance-spec =
     (λ c κs. search needs)
     (λ c. wrong-step _ _ _ (c .before .before .before .step .ensures) _ (c .before .expected .given .1))
     (λ c. next-step _ _ _ (c .before .before .before .before .step .ensures) _ _ _ (c .before .before .next .given .1)
-        (c .with-output .ensures .0) (c .with-output .ensures .1)))
+    (c .with-output .ensures .0) (c .with-output .ensures .1)))

@@ -12,17 +12,32 @@ at-sign-spec =
     (λ c κs. search needs)
     (λ c κs. search needs)
     (λ c κs. search needs)
-    (λ c. rw (← c .before .before .before .is-blank .ensures, c .before .before .if1 .taken, ← c .before .behind .ensures,
-        ← c .nothing .ensures))
+    (λ c. rw (
+      ← c .before .before .before .is-blank .ensures,
+      c .before .before .if1 .taken,
+      ← c .before .behind .ensures,
+      ← c .nothing .ensures,
+    ))
     (λ c κs. search needs)
     (λ c κs. search needs)
     (λ c κs. search needs)
-    (λ c. rw (← c .before .before .before .before .before .is-blank .ensures, c .before .before .before .before .if1 .left,
-        ← c .before .before .before .ends-entry .ensures, c .before .before .if2 .taken, ← c .before .between .ensures,
-            ← c .ended .ensures))
+    (λ c. rw (
+      ← c .before .before .before .before .before .is-blank .ensures,
+      c .before .before .before .before .if1 .left,
+      ← c .before .before .before .ends-entry .ensures,
+      c .before .before .if2 .taken,
+      ← c .before .between .ensures,
+      ← c .ended .ensures,
+    ))
     (λ c κs. search needs)
     (λ c κs. search needs)
     (λ c κs. search needs)
-    (λ c. rw (← c .before .before .before .before .before .before .is-blank .ensures, c .before .before .before .before .before .if1 .left,
-        ← c .before .before .before .before .ends-entry .ensures, c .before .before .before .if2 .left,
-            ← c .before .before .with-sign .ensures, ← c .before .behind2 .ensures, ← c .nothing2 .ensures)))
+    (λ c. rw (
+      ← c .before .before .before .before .before .before .is-blank .ensures,
+      c .before .before .before .before .before .if1 .left,
+      ← c .before .before .before .before .ends-entry .ensures,
+      c .before .before .before .if2 .left,
+      ← c .before .before .with-sign .ensures,
+      ← c .before .behind2 .ensures,
+      ← c .nothing2 .ensures,
+    )))

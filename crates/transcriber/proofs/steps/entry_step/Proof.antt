@@ -13,8 +13,16 @@ entry-step-spec =
     (λ c κs. search needs)
     (λ c κs. search needs)
     (λ c κs. search needs)
-    (λ c. rw (← c .before .before .before .takes-letters .ensures, ← c .before .before .digit-value .ensures,
-        lt-ltb _ _ (c .before .if1 .taken), ← c .at-digit .ensures))
+    (λ c. rw (
+      ← c .before .before .before .takes-letters .ensures,
+      ← c .before .before .digit-value .ensures,
+      lt-ltb _ _ (c .before .if1 .taken),
+      ← c .at-digit .ensures,
+    ))
     (λ c κs. search needs)
-    (λ c. rw (← c .before .before .before .takes-letters .ensures, ← c .before .before .digit-value .ensures,
-        le-ltb _ _ (c .before .if1 .left), ← c .at-sign .ensures)))
+    (λ c. rw (
+      ← c .before .before .before .takes-letters .ensures,
+      ← c .before .before .digit-value .ensures,
+      le-ltb _ _ (c .before .if1 .left),
+      ← c .at-sign .ensures,
+    )))
