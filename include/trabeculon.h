@@ -881,30 +881,6 @@ trabeculon_piece_read trabeculon_reader_end(trabeculon_reader reader,
                                             const uint32_t *list,
                                             size_t list_len);
 
-/*
- * The structs are as large here as in the library, or this does not compile.
- * Before C11 and C++11 a row of less than no bytes says so.
- */
-#if defined(__cplusplus) && __cplusplus >= 201103L
-#define TRABECULON_SIZE(type, size) static_assert(sizeof(type) == (size), #type)
-#elif defined(__STDC_VERSION__) && __STDC_VERSION__ >= 201112L
-#define TRABECULON_SIZE(type, size) _Static_assert(sizeof(type) == (size), #type)
-#else
-#define TRABECULON_SIZE(type, size) \
-    typedef char type##_size[sizeof(type) == (size) ? 1 : -1]
-#endif
-TRABECULON_SIZE(trabeculon_stamp, 8);
-TRABECULON_SIZE(trabeculon_answer, 24);
-TRABECULON_SIZE(trabeculon_drill, 24);
-TRABECULON_SIZE(trabeculon_machine, 56);
-TRABECULON_SIZE(trabeculon_opened, 64);
-TRABECULON_SIZE(trabeculon_stepped, 80);
-TRABECULON_SIZE(trabeculon_asked, 16);
-TRABECULON_SIZE(trabeculon_row_stepped, 20);
-TRABECULON_SIZE(trabeculon_reader, 120);
-TRABECULON_SIZE(trabeculon_piece_read, 144);
-#undef TRABECULON_SIZE
-
 /* ---- Mending a damaged log (request 12/12) ---- */
 
 /* So many of the dropped records are listed; all are counted. */
@@ -967,6 +943,31 @@ typedef struct {
 trabeculon_mended trabeculon_mend(const uint8_t *log, size_t log_len,
                                   uint8_t *out, size_t out_len,
                                   uint64_t *list, size_t list_len);
+
+/*
+ * The structs are as large here as in the library, or this does not compile.
+ * Before C11 and C++11 a row of less than no bytes says so.
+ */
+#if defined(__cplusplus) && __cplusplus >= 201103L
+#define TRABECULON_SIZE(type, size) static_assert(sizeof(type) == (size), #type)
+#elif defined(__STDC_VERSION__) && __STDC_VERSION__ >= 201112L
+#define TRABECULON_SIZE(type, size) _Static_assert(sizeof(type) == (size), #type)
+#else
+#define TRABECULON_SIZE(type, size) \
+    typedef char type##_size[sizeof(type) == (size) ? 1 : -1]
+#endif
+TRABECULON_SIZE(trabeculon_stamp, 8);
+TRABECULON_SIZE(trabeculon_answer, 24);
+TRABECULON_SIZE(trabeculon_drill, 24);
+TRABECULON_SIZE(trabeculon_machine, 56);
+TRABECULON_SIZE(trabeculon_opened, 64);
+TRABECULON_SIZE(trabeculon_stepped, 80);
+TRABECULON_SIZE(trabeculon_asked, 16);
+TRABECULON_SIZE(trabeculon_row_stepped, 20);
+TRABECULON_SIZE(trabeculon_reader, 120);
+TRABECULON_SIZE(trabeculon_piece_read, 144);
+TRABECULON_SIZE(trabeculon_mended, 32);
+#undef TRABECULON_SIZE
 
 #ifdef __cplusplus
 }

@@ -63,6 +63,9 @@ static trabeculon_row_stepped row_stepped;
 static trabeculon_reader reader;
 static uint32_t row[TRABECULON_MOST_PAIRS];
 static trabeculon_piece_read piece_read;
+static trabeculon_mended mended;
+static uint8_t mended_bytes[sizeof log_bytes];
+static uint64_t dropped[2 * TRABECULON_MOST_LISTED];
 static const uint8_t *piece;
 static size_t piece_len;
 
@@ -186,6 +189,11 @@ static void call_reader_end(void) {
     piece_read = trabeculon_reader_end(reader, row, TRABECULON_MOST_PAIRS);
 }
 
+static void call_mend(void) {
+    mended = trabeculon_mend(log_bytes, log_len, mended_bytes, sizeof mended_bytes, dropped,
+                             2 * TRABECULON_MOST_LISTED);
+}
+
 static size_t depth_of(void (*call)(void)) {
     memset(stack, PATTERN, STACK_SIZE);
     getcontext(&inside);
@@ -212,7 +220,7 @@ int main(void) {
     size_t fresh = 0, piece_of_log = 0, end = 0;
     size_t opinion = 0;
     size_t read_log = 0, write_drill = 0, open = 0, step = 0, distance = 0;
-    size_t row_step = 0, row_distance = 0;
+    size_t row_step = 0, row_distance = 0, mend = 0;
     size_t refused = 0, commits = 0;
     for (int round = 0; round < ROUNDS; round++) {
         random_settings();
@@ -237,6 +245,7 @@ int main(void) {
         random_log();
         deepest(&read_log, call_read_log);
         deepest(&opinion, call_second_opinion);
+        deepest(&mend, call_mend);
         deepest(&fresh, call_reader_fresh);
         for (size_t at = 0; at < log_len; at += piece_len) {
             random_piece(at);
@@ -259,5 +268,6 @@ int main(void) {
     printf("trabeculon_distance      %6zu\n", distance - none);
     printf("trabeculon_row_step      %6zu\n", row_step - none);
     printf("trabeculon_row_distance  %6zu\n", row_distance - none);
+    printf("trabeculon_mend          %6zu\n", mend - none);
     return refused == 0 || commits == 0;
 }
