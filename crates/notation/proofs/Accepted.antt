@@ -26,8 +26,8 @@ use Rattle.keylog.specs.Reader.{Desk, closed, opened, running, Effect, refused,
 use Rattle.keylog.specs.Reader.{Reading, fresh, refuse, accept, judge as judge-record, unless-refused, read-record, is-cut, at-end, read}
 use Rattle.keylog.proofs.Walking.{over}
 use Rattle.keylog.proofs.Reading.{read-records}
-use Rattle.mender.specs.Laws.{joined}
-use Rattle.mender.proofs.LogParts.{Wholes, joined-append, records-whole, all-bytes, cut-up-joined}
+use Rattle.mending.specs.Laws.{joined}
+use Rattle.mending.proofs.LogParts.{Wholes, joined-append, records-whole, all-bytes, cut-up-joined}
 
 pub data Shape (r : List ℕ) : Type 0 where
   of-settings : is-settings r ≡ true → Shape r

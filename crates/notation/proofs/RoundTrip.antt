@@ -16,10 +16,10 @@ use Rattle.keylog.specs.LogRecords.{records-of}
 use Rattle.keylog.specs.Reader.{read, number-of}
 use Rattle.keylog.specs.RecordRefusals.{Accepts}
 use Rattle.keylog.proofs.Passed.{all-passed}
-use Rattle.mender.specs.Laws.{joined, mended-line}
-use Rattle.mender.specs.Mending.{Mending, mend}
-use Rattle.mender.proofs.Laws.{mend-laws}
-use Rattle.mender.proofs.LogParts.{Wholes}
+use Rattle.mending.specs.Laws.{joined, mended-line}
+use Rattle.mending.specs.Mending.{Mending, mend}
+use Rattle.mending.proofs.Laws.{mend-laws}
+use Rattle.mending.proofs.LogParts.{Wholes}
 use Rattle.notation.specs.Notation.{record-text, texts, refusal-text, whole-reading, accepted-front, notated}
 use Rattle.notation.specs.RoundTrip.{Bytes, Round-trip}
 use Rattle.notation.specs.Transcribing.{start, empty, takes-letters, digit-value, is-blank, ends-entry, ended, at-sign, entry-step}
