@@ -207,8 +207,8 @@ trabeculon_answer trabeculon_read_log(const uint8_t *log, size_t log_len,
  *
  * 4 * (log_len / 13 + 1) bytes at out always suffice. Every byte of out but the
  * first 2 * words holds what it held before, an odd last byte among them. The
- * time that it takes grows as the square of the log's length (measured,
- * docs/INSPECTION.md).
+ * time that it takes may grow as the square of the log's length, where few keys
+ * are in use (measured, docs/INSPECTION.md).
  *
  * Proved: the answer and the run afterwards (Gives, second/specs/Whole.antt,
  * over opined, inspected/specs/OfLog.antt); that it is the reader's, that room
