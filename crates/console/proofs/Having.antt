@@ -7,9 +7,9 @@ use mathlib.Core.Path.{_≡_, sym}
 use mathlib.Core.List.{List}
 use lib.ListN.{length, take}
 use lib.Seq.{length-take-le}
-use Rattle.sheet.specs.Shows.{longest-log, text-room, fits, shown, Shows, Within}
-use Rattle.sheet.specs.declared.Shown.{Shown}
-use Rattle.sheet.specs.declared.Shown.the-variants.{Unread, Text}
+use Rattle.console_text.specs.Shows.{longest-log, text-room, fits, shown, Shows, Within}
+use Rattle.console_text.specs.declared.Shown.{Shown}
+use Rattle.console_text.specs.declared.Shown.the-variants.{Unread, Text}
 use Rattle.console.specs.Texts.{Has-text}
 
 pub has-text : (l run : List ℕ) (answer : Shown) (after : List ℕ)

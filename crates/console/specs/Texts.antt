@@ -1,7 +1,7 @@
 -- What the program's functions need.
 use Prim.Native.Nat.{ℕ, _≤_}
-use Rattle.sheet.specs.declared.Shown.{Shown}
-use Rattle.sheet.specs.declared.Shown.the-variants.{Unread, Text}
+use Rattle.console_text.specs.declared.Shown.{Shown}
+use Rattle.console_text.specs.declared.Shown.the-variants.{Unread, Text}
 
 -- there is a text, and it lies within a length
 abbrev pub Has-text : ℕ → Shown → Type 0

@@ -8,13 +8,13 @@ mod messages;
 use input::Input;
 use libc::STDERR_FILENO;
 use libc::STDOUT_FILENO;
-use sheet::LONGEST_LOG;
-use sheet::Shown;
-use sheet::TEXT_ROOM;
+use console_text::LONGEST_LOG;
+use console_text::Shown;
+use console_text::TEXT_ROOM;
 ghost use Prim.Native.Nat.{_≤_};
 ghost use mathlib.Core.Path.{_≡_};
 ghost use lib.ListN.{length};
-ghost use Rattle.sheet.specs.Shows.{longest-log, text-room};
+ghost use Rattle.console_text.specs.Shows.{longest-log, text-room};
 ghost use Rattle.console.specs.Texts.{Has-text};
 
 // Buffers as they are given: a parameter's length is known by its type, that of a new array would take too long to compute.
@@ -52,7 +52,7 @@ fn print_log(log: &[u8], out: &mut [u8])
     requires { ⌜ length (now log) ≤ longest-log ⌝ }
     requires { ⌜ text-room ≤ length (now out) ⌝ }
 {
-    let shown = sheet::show(log, out);
+    let shown = console_text::show(log, out);
     print_text(shown, out);
 }
 

@@ -9,7 +9,7 @@ use native.Mathlib.Omega.{arith}
 use lib.Dec.{ltb, eqb}
 use lib.IntN.{ℤ}
 use borrow.Author.Tests.{leb-true, ltb-false}
-use Rattle.rules.specs.Choice.{if_then_else_}
+use Rattle.choice.specs.Choice.{if_then_else_}
 use Rattle.rules.specs.Numbers.{largest-stamp, in-range, A, B, FJ, FL}
 use Rattle.rules.specs.Pairs.{Lent, in-some-pair, GN, P, alone}
 use Rattle.rules.specs.Held.{held-formed}
@@ -21,7 +21,7 @@ use Rattle.rules.specs.declared.Settings.{Settings}
 use Rattle.rules.specs.declared.Resting.{Resting}
 use Rattle.rules.specs.declared.Resting.the-variants.{S1, S2, S3, S4, S5, S6, S7, S8}
 use Rattle.rules.specs.declared.Machine.{Machine}
-use Rattle.rules.proofs.Choices.{both-ways}
+use Rattle.choice.proofs.Choices.{both-ways}
 use Rattle.rules.proofs.Tests.{range-bounds}
 use Rattle.waits.proofs.Bounds.{Held, later-fits, lag-fits, A-bound, B-bound, FJ-bound, FL-bound, P-bound, GN-bound}
 use Rattle.waits.specs.Capped.{largest-signed, later-at-most}

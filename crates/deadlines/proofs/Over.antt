@@ -6,7 +6,7 @@ use native.Mathlib.Nat.{le-max-left, le-max-right, max-le}
 use native.Mathlib.Omega.{arith}
 use lib.Dec.{ltb}
 use borrow.Author.Tests.{ltb-true, ltb-false, lt-ltb, le-ltb}
-use Rattle.rules.specs.Choice.{if_then_else_}
+use Rattle.choice.specs.Choice.{if_then_else_}
 use Rattle.rules.specs.Numbers.{A, B, FJ, FL}
 use Rattle.rules.specs.Pairs.{Lent, in-some-pair, GN, P, alone}
 use Rattle.rules.specs.States.{at-or-before}

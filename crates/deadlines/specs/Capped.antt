@@ -5,7 +5,7 @@ use Prim.Native.Nat.{ℕ, min}
 use mathlib.Core.Option.{Option, none, some}
 use lib.Dec.{eqb}
 use lib.IntN.{ℤ}
-use Rattle.rules.specs.Choice.{if_then_else_}
+use Rattle.choice.specs.Choice.{if_then_else_}
 use Rattle.rules.specs.Numbers.{B, FJ, FL}
 use Rattle.rules.specs.Pairs.{Lent, GN, alone}
 use Rattle.rules.specs.States.{lag}

@@ -3,7 +3,7 @@
 use Prim.Native.Nat.{ℕ, _%_}
 use mathlib.Core.Bool.{Bool, true, false, not, _&&_}
 use mathlib.Core.Path.{_≡_}
-use Rattle.rules.specs.Choice.{if_then_else_}
+use Rattle.choice.specs.Choice.{if_then_else_}
 use Rattle.decode.specs.Sequences.{continues, joined, within, surrogate, two, three, four}
 use Rattle.decode.specs.declared.sequence.Sequence.the-variants.{Damaged, Word}
 

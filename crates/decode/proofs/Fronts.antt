@@ -6,8 +6,8 @@ use mathlib.Core.Path.{_≡_, refl}
 use mathlib.Core.List.{List, [], _∷_}
 use lib.Dec.{eqb}
 use lib.ListN.{length}
-use Rattle.rules.specs.Choice.{if_then_else_}
-use Rattle.rules.proofs.Choices.{both-ways}
+use Rattle.choice.specs.Choice.{if_then_else_}
+use Rattle.choice.proofs.Choices.{both-ways}
 use Rattle.decode.specs.Sequences.{continues, joined, within, surrogate, two, three, four, byte, front}
 use Rattle.decode.specs.declared.sequence.Sequence.{Sequence}
 use Rattle.decode.specs.declared.sequence.Sequence.the-variants.{Damaged, Word}

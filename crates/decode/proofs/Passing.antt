@@ -9,10 +9,10 @@ use mathlib.Core.List.{List, [], _∷_, _++_, append-assoc, append-nil}
 use lib.Dec.{leb}
 use lib.ListN.{length, take, drop, set, length-append, length-drop}
 use lib.Seq.{take-all, drop-nil, drop-drop, drop-length}
-use Rattle.rules.specs.Choice.{if_then_else_}
-use Rattle.rules.proofs.Choices.{by-test}
-use Rattle.runs.specs.Filled.{filled}
-use Rattle.runs.proofs.Filling.{filled-more, length-filled, stored-1}
+use Rattle.choice.specs.Choice.{if_then_else_}
+use Rattle.choice.proofs.Choices.{by-test}
+use Rattle.filled.specs.Filled.{filled}
+use Rattle.filled.proofs.Filling.{filled-more, length-filled, stored-1}
 use Rattle.decode.specs.Sequences.{front}
 use Rattle.decode.specs.Decoding.{Decoding, words, damaged, followed-by, decoded-from, decoded, answer-of, run-after, Fits, Decodes}
 use Rattle.decode.specs.declared.sequence.Sequence.{Sequence}

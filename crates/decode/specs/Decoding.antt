@@ -4,8 +4,8 @@ use mathlib.Core.List.{List, [], _∷_}
 use mathlib.Core.Path.{_≡_}
 use lib.Dec.{leb}
 use lib.ListN.{length}
-use Rattle.rules.specs.Choice.{if_then_else_}
-use Rattle.runs.specs.Filled.{filled}
+use Rattle.choice.specs.Choice.{if_then_else_}
+use Rattle.filled.specs.Filled.{filled}
 use Rattle.decode.specs.Sequences.{front}
 use Rattle.decode.specs.declared.sequence.Sequence.{Sequence}
 use Rattle.decode.specs.declared.sequence.Sequence.the-variants.{Damaged, Word}

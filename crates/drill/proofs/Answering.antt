@@ -9,11 +9,11 @@ use mathlib.Core.Path.{_≡_, refl, sym, ap, _∙_}
 use lib.Dec.{eqb, leb}
 use lib.ListN.{length, take, drop, length-append, length-take}
 use lib.Seq.{take-append-seam}
-use Rattle.rules.specs.Choice.{if_then_else_}
+use Rattle.choice.specs.Choice.{if_then_else_}
 use Rattle.rules.specs.Numbers.{in-range}
 use Rattle.rules.specs.declared.Settings.{Settings}
-use Rattle.rules.proofs.Choices.{both-ways, by-test}
-use Rattle.runs.specs.Filled.{filled}
+use Rattle.choice.proofs.Choices.{both-ways, by-test}
+use Rattle.filled.specs.Filled.{filled}
 use Rattle.decode.specs.Sequences.{front}
 use Rattle.decode.specs.Decoding.{Decoding, words, damaged, followed-by, beginning, decoded-from, decoded, Decodes}
 use Rattle.decode.specs.Decoding as decoding
@@ -21,7 +21,7 @@ use Rattle.decode.specs.declared.sequence.Sequence.{Sequence}
 use Rattle.decode.specs.declared.sequence.Sequence.the-variants as sequence
 use Rattle.decode.specs.declared.Decoded as Decoded
 use Rattle.writer.specs.declared.Drilled.{Drilled}
-use Rattle.writer.specs.Drills.{Refused, drill, first-refused, judge-line, writing}
+use Rattle.writer.specs.Drills.{Refused, drill, first-refused, check-line, writing}
 use Rattle.writer.specs.Writes.{Writes}
 use Rattle.drill.specs.Texts.{line-size, told, Answers, Drills, Within}
 use Rattle.drill.specs.declared.lines.Answer.{Answer}
@@ -124,7 +124,7 @@ within-room s line room = both-ways P (in-range s) (by-first (first-refused 0 li
     P : Drilled → Type 0
     P d = Within room (told d)
 
-    by-first : (o : Option Refused) → P (judge-line (length (drill s line)) room (length line) o)
+    by-first : (o : Option Refused) → P (check-line (length (drill s line)) room (length line) o)
     by-first none = by-test P (leb (length (drill s line)) room) (λ t. leb-true (length (drill s line)) room t) (λ t. tt)
     by-first (some r) = both-ways (Within room) (eqb (r .number) 0) (omega arith) tt
 

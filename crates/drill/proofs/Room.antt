@@ -14,7 +14,7 @@ use Rattle.rules.specs.declared.Stamp.{Stamp}
 use Rattle.rules.specs.declared.Face.{Face}
 use Rattle.rules.specs.declared.Face.the-variants.{Plain, With}
 use Rattle.rules.specs.declared.Event.{Event}
-use Rattle.rules.proofs.Choices.{both-ways, by-test}
+use Rattle.choice.proofs.Choices.{both-ways, by-test}
 use Rattle.lookup.specs.Places.{Place, place-of}
 use Rattle.lookup.proofs.Table.{below-table}
 use Rattle.decode.specs.Sequences.{continues, joined, within, surrogate, two, three, four, byte, front}
@@ -22,7 +22,7 @@ use Rattle.decode.specs.Decoding.{Decoding, words, damaged, followed-by, beginn
 use Rattle.decode.specs.declared.sequence.Sequence.{Sequence}
 use Rattle.decode.specs.declared.sequence.Sequence.the-variants.{Damaged, Word}
 use Rattle.decode.proofs.Fronts.{follow}
-use Rattle.writer.specs.Drills.{settings-record, event-record, event-records, strokes, drill-stamp, line-events, drill, Refused, judge-character, first-of, first-refused, judge-line, writing}
+use Rattle.writer.specs.Drills.{settings-record, event-record, event-records, strokes, drill-stamp, line-events, drill, Refused, check-character, first-of, first-refused, check-line, writing}
 use Rattle.drill.specs.Texts.{longest-text, line-size, line-of, told, answer-of, Drills, Within}
 use Rattle.drill.specs.Room.{log-room, Room-suffices}
 use Rattle.drill.specs.Room as answered
@@ -62,13 +62,13 @@ abbrev Wide : List ℕ → Type 0
 Wide [] = Unit {0}
 Wide (w ∷ ws) = (0x800 ≤ w) × Wide ws
 
-on-a-face : (n c : ℕ) → judge-character n (place-of c) ≡ none → 0x800 ≤ c
+on-a-face : (n c : ℕ) → check-character n (place-of c) ≡ none → 0x800 ≤ c
 on-a-face n c e = by-size (ltb c 0x3000) refl
   where
     by-size : (t : Bool) → ltb c 0x3000 ≡ t → 0x800 ≤ c
     by-size true h =
         let low : c < 0x3000 = ltb-true c 0x3000 h in
-        let f : judge-character n none ≡ none = rw (← below-table c (λ z. omega arith) (λ z. omega arith) low) at e in
+        let f : check-character n none ≡ none = rw (← below-table c (λ z. omega arith) (λ z. omega arith) low) at e in
         absurd (let z : _≡_ {A = ℕ} 0 1 = cc in omega arith)
     by-size false h = omega (arith, ltb-false c 0x3000 h)
 
@@ -80,7 +80,7 @@ accepted-wide : (n : ℕ) (line : List ℕ) → first-refused n line ≡ none �
 unfolding first-refused
 accepted-wide n [] e = tt
 accepted-wide n (c ∷ cs) e =
-    let f = both-none (judge-character n (place-of c)) (first-refused (suc n) cs) e in
+    let f = both-none (check-character n (place-of c)) (first-refused (suc n) cs) e in
     (on-a-face n c (f .0), accepted-wide (suc n) cs (f .1))
 
 -- a sequence of fewer bytes gives no such word
@@ -159,7 +159,7 @@ abbrev Not-8 : Option Refused → Type 0
 Not-8 none = Unit {0}
 Not-8 (some r) = r .number ≡ 8 → ⊥
 
-not-8 : (n : ℕ) (later : Option Refused) (o : Option Place) → Not-8 later → Not-8 (first-of (judge-character n o) later)
+not-8 : (n : ℕ) (later : Option Refused) (o : Option Place) → Not-8 later → Not-8 (first-of (check-character n o) later)
 not-8 n later none l = λ z. omega arith
 not-8 n later (some p) l = both-ways (λ o. Not-8 (first-of o later)) (ltb largest-stamp (250 * n)) (λ z. omega arith) l
 
@@ -173,7 +173,7 @@ none-8 n (c ∷ cs) = not-8 n (first-refused (suc n) cs) (place-of c) (none-8 (s
 module _ (s : Settings) (line : List ℕ) (room : ℕ) (enough : log-room ≤ room)
     (few : first-refused 0 line ≡ none → 3 * length line ≤ longest-text) where
   by-first : (o : Option Refused) → first-refused 0 line ≡ o → Not-8 o
-      → answered.Not-8 (told (judge-line (length (drill s line)) room (length line) o))
+      → answered.Not-8 (told (check-line (length (drill s line)) room (length line) o))
   by-first none e n =
       let h : length (drill s line) ≤ room = omega (arith, short-log s line, few e) in
       rw (le-leb (length (drill s line)) room h) (λ position f. let z : _≡_ {A = ℕ} 0 1 = cc in omega arith)

@@ -4,7 +4,7 @@ use mathlib.Core.List.{List}
 use mathlib.Core.Path.{_≡_}
 use lib.Dec.{eqb}
 use lib.ListN.{length, take, getD}
-use Rattle.rules.specs.Choice.{if_then_else_}
+use Rattle.choice.specs.Choice.{if_then_else_}
 use Rattle.rules.specs.declared.Settings.{Settings}
 use Rattle.decode.specs.Decoding.{Decoding, words, damaged, decoded}
 use Rattle.writer.specs.declared.Drilled.{Drilled}

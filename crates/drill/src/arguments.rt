@@ -1,5 +1,5 @@
 // What the program's arguments ask for.
-use numbers::Number;
+use decimals::Number;
 use rules::Settings;
 
 pub enum Asked {
@@ -17,7 +17,7 @@ enum Byte {
 fn argument(i: usize) -> Number {
     let mut buf = io::buffer();
     let n = os::arg(i, &mut buf);
-    numbers::parse(&buf[..n])
+    decimals::parse(&buf[..n])
 }
 
 fn byte_argument(i: usize) -> Byte {

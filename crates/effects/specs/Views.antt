@@ -1,6 +1,6 @@
 -- What the answers of this crate say.
 use Rattle.rules.specs.OneEvent.{Done, _leaving_}
-use Rattle.preview.specs.Views.{listed}
+use Rattle.rules.specs.Items.{listed}
 use Rattle.effects.specs.declared.Effect.{Effect}
 
 abbrev pub done : Effect → Done

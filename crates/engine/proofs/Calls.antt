@@ -15,7 +15,7 @@ use Rattle.rules.specs.declared.Settings.{Settings}
 use Rattle.rules.specs.declared.Machine.{Machine}
 use Rattle.rules.specs.declared.Opened.the-variants.{Ready}
 use Rattle.rules.specs.declared.Event.{Event}
-use Rattle.rules.proofs.Choices.{by-test}
+use Rattle.choice.proofs.Choices.{by-test}
 use Rattle.rules.proofs.Demand3.{demand-3}
 use Rattle.engine.specs.Views.{stepped}
 use Rattle.engine.specs.Calls.{Calls, no-more, call, CodeRun, last-machine, along-calls, OfTheCode}

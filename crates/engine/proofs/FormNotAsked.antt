@@ -13,7 +13,7 @@ use Rattle.rules.specs.declared.Stamp.{Stamp}
 use Rattle.rules.specs.declared.Machine.{Machine}
 use Rattle.rules.specs.declared.Event.{Event}
 use Rattle.rules.specs.declared.Input.{Input}
-use Rattle.rules.proofs.Choices.{both-ways}
+use Rattle.choice.proofs.Choices.{both-ways}
 use Rattle.rules.proofs.Tests.{good-bounds}
 use Rattle.rules.proofs.Late.{settle-once}
 use Rattle.deadlines.proofs.Formed.{LentHeld, well-formed-deadline}

@@ -15,7 +15,7 @@ use Rattle.rules.specs.declared.Resting.{Resting}
 use Rattle.rules.specs.declared.Machine.{Machine}
 use Rattle.rules.specs.declared.Event.{Event}
 use Rattle.rules.specs.declared.Input.{Input}
-use Rattle.rules.proofs.Choices.{by-test}
+use Rattle.choice.proofs.Choices.{by-test}
 use Rattle.rules.proofs.Late.{late-and-event}
 use Rattle.pairs.specs.Lent.{of-list, lent}
 use Rattle.pairs.specs.declared.Times.{Times}

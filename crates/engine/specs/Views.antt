@@ -3,7 +3,7 @@ use Prim.Native.Nat.{ℕ}
 use mathlib.Core.List.{List}
 use mathlib.Core.Path.{_≡_}
 use lib.Dec.{eqb}
-use Rattle.rules.specs.Choice.{if_then_else_}
+use Rattle.choice.specs.Choice.{if_then_else_}
 use Rattle.rules.specs.Numbers.{keys}
 use Rattle.rules.specs.OneEvent.{Done}
 use Rattle.rules.specs.GivenBack as given-back
@@ -12,7 +12,8 @@ use Rattle.rules.specs.declared.Stamp.{Stamp}
 use Rattle.rules.specs.declared.Machine.{Machine}
 use Rattle.rules.specs.declared.Item.{Item}
 use Rattle.rules.specs.declared.Input.{Input}
-use Rattle.preview.specs.Views.{listed, sending-list, packed-sendings}
+use Rattle.rules.specs.Items.{listed}
+use Rattle.preview.specs.Views.{sending-list, packed-sendings}
 use Rattle.engine.specs.declared.Stepped.{Stepped}
 use Rattle.engine.specs.declared.Change.{Change}
 use Rattle.engine.specs.declared.Taken as Taken

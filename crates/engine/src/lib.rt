@@ -14,7 +14,7 @@ use holding::held_after;
 use holding::too_many;
 pub use pairs::Times;
 pub use pairs::lent_good;
-pub use preview::Items;
+pub use rules::Items;
 pub use preview::Sendings;
 pub use preview::Signs;
 use preview::sent;

@@ -1,17 +1,17 @@
 // A log that arrives in pieces, for the console's C host. The reader goes in and comes out as numbers (crate pieces), a log's list of
 // pairs stands in a run that the host lends with it, and nothing is kept here.
 use crate::Answer;
-use pieces::FedNumbers;
-use pieces::FlatReader;
+use log_reader::FedNumbers;
+use log_reader::ReaderNumbers;
 ghost use mathlib.Core.Path.{_≡_};
 ghost use Rattle.host.specs.Face.{told};
-ghost use Rattle.pieces.specs.Readers.{accepted};
+ghost use Rattle.log_reader.specs.Readers.{accepted};
 ghost use Rattle.host.specs.InPieces.{fresh-numbers, GivesPiece, GivesEnd};
 
 // The reader after a call, and what the call answers.
 #[repr(C)]
 pub struct PieceRead {
-    pub reader: FlatReader,
+    pub reader: ReaderNumbers,
     pub answer: Answer,
 }
 
@@ -30,11 +30,11 @@ fn handed_back(fed: FedNumbers) -> PieceRead
 
 // The reader before the first piece.
 #[no_mangle]
-pub extern "C" fn trabeculon_reader_fresh() -> FlatReader
+pub extern "C" fn trabeculon_reader_fresh() -> ReaderNumbers
     ensures { λ r. ⌜ r ≡ fresh-numbers ⌝ }
 {
-    FlatReader {
-        machine: flat::no_machine(),
+    ReaderNumbers {
+        machine: machine_numbers::no_machine(),
         offset: 0,
         words: 0,
         count: 0,
@@ -53,20 +53,20 @@ pub extern "C" fn trabeculon_reader_fresh() -> FlatReader
 // A piece of a log read into a run of bytes. The list's run, of 64 numbers or more, is lent with each call as the one before left it.
 #[no_mangle]
 pub extern "C" fn trabeculon_reader_piece(
-    reader: FlatReader,
+    reader: ReaderNumbers,
     list: &mut [u32],
     piece: &[u8],
     out: &mut [u8],
 ) -> PieceRead
     ensures { λ r. ⌜ GivesPiece reader (now (list .entry)) (now (piece .entry)) (now (out .entry)) (accepted (now (list .entry)) reader) r (now (list .exit)) (now (out .exit)) ⌝ }
 {
-    handed_back(pieces::feed_numbers(reader, list, piece, out))
+    handed_back(log_reader::feed_numbers(reader, list, piece, out))
 }
 
 // The log has ended.
 #[no_mangle]
-pub extern "C" fn trabeculon_reader_end(reader: FlatReader, list: &[u32]) -> PieceRead
+pub extern "C" fn trabeculon_reader_end(reader: ReaderNumbers, list: &[u32]) -> PieceRead
     ensures { λ r. ⌜ GivesEnd reader (now (list .entry)) (accepted (now (list .entry)) reader) r ⌝ }
 {
-    handed_back(pieces::end_numbers(reader, list))
+    handed_back(log_reader::end_numbers(reader, list))
 }

@@ -17,9 +17,9 @@ use Rattle.rules.specs.declared.Stamp.{Stamp}
 use Rattle.rules.specs.declared.Machine.{Machine}
 use Rattle.rules.specs.declared.Item.{Item}
 use Rattle.rules.proofs.DistanceFacts.{distance-facts, same-refusals}
-use Rattle.flat.specs.Fields.{flat, named}
-use Rattle.flat.specs.declared.Flat.{Flat}
-use Rattle.flat.proofs.RoundTrip.{loses-nothing}
+use Rattle.machine_numbers.specs.Fields.{in-numbers, named}
+use Rattle.machine_numbers.specs.declared.MachineNumbers.{MachineNumbers}
+use Rattle.machine_numbers.proofs.RoundTrip.{loses-nothing}
 use Rattle.keyboard.specs.Keyboard.{told-numbers, answered-numbers, asked-numbers, step-named, step-numbers}
 use Rattle.keyboard.specs.Keyboard.{distance-named, distance-numbers}
 use Rattle.keyboard.specs.DistanceNumbers.{tick-at, SaysDue, SaysIn, SaysNone, told-later, with-last, only-last-numbers}
@@ -68,11 +68,11 @@ some-counted [] h = absurd (h refl)
 some-counted (i ∷ l) h = λ z. omega (arith, z)
 
 -- a machine with another last stamp
-flat-last : (x : Machine) (t : Stamp) → flat (only-last x t .machine) ≡ with-last (flat x) t
-unfolding flat
-flat-last x t = refl
+in-numbers-last : (x : Machine) (t : Stamp) → in-numbers (only-last x t .machine) ≡ with-last (in-numbers x) t
+unfolding in-numbers
+in-numbers-last x t = refl
 
-module _ (g : Lent) (f : Flat) (x : Machine) (names : named f ≡ some x) where
+module _ (g : Lent) (f : MachineNumbers) (x : Machine) (names : named f ≡ some x) where
   pub asks : (now : Stamp) → distance-numbers g f now ≡ asked-numbers (asking g x now)
   unfolding distance-numbers
   asks now = rw names
@@ -81,7 +81,7 @@ module _ (g : Lent) (f : Flat) (x : Machine) (names : named f ≡ some x) where
   ticks t = call-answers g f x (tick-at t) names
 
   only-last-is : (t : Stamp) → answered-numbers (only-last x t) ≡ only-last-numbers f t
-  only-last-is t = rw (flat-last x t, loses-nothing .one-form f x names)
+  only-last-is t = rw (in-numbers-last x t, loses-nothing .one-form f x names)
 
   pub distance-numbers-facts : (now : Stamp) → distance-numbers g f now .number ≡ 0 → DistanceNumbers g f x now
   distance-numbers-facts now answered =
@@ -125,7 +125,7 @@ module _ (g : Lent) (f : Flat) (x : Machine) (names : named f ≡ some x) where
       accepted : (t : Stamp) → step-numbers g f (tick-at t) .number ≡ 0 → step g x (tick t) .number ≡ 0
       accepted t z = sym (ap (λ (r : StepAnswer). r .number) (ticks t)) ∙ z
 
-pub same-refused-numbers : (g : Lent) (f : Flat) (now : Stamp) → SameRefusedNumbers g f now
+pub same-refused-numbers : (g : Lent) (f : MachineNumbers) (now : Stamp) → SameRefusedNumbers g f now
 unfolding distance-numbers step-numbers
 same-refused-numbers g f now = go (named f)
   where

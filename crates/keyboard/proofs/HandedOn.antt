@@ -15,15 +15,15 @@ use Rattle.rules.specs.Sequences.{after, state}
 use Rattle.rules.specs.declared.Settings.{Settings}
 use Rattle.rules.specs.declared.Machine.{Machine}
 use Rattle.rules.specs.declared.Event.{Event}
-use Rattle.rules.proofs.Choices.{both-ways}
+use Rattle.choice.proofs.Choices.{both-ways}
 use Rattle.rules.proofs.Formed.{stays-formed}
 use Rattle.pairs.specs.Lent.{pairs-in}
 use Rattle.pairs.specs.LentFacts.{word}
 use Rattle.pairs.proofs.Words.{can-be-lent}
-use Rattle.flat.specs.Fields.{flat, named, numbers-of}
-use Rattle.flat.specs.Formed.{names-formed}
-use Rattle.flat.specs.declared.Flat.{Flat}
-use Rattle.flat.proofs.RoundTrip.{loses-nothing, all-fit}
+use Rattle.machine_numbers.specs.Fields.{in-numbers, named, numbers-of}
+use Rattle.machine_numbers.specs.Formed.{names-formed}
+use Rattle.machine_numbers.specs.declared.MachineNumbers.{MachineNumbers}
+use Rattle.machine_numbers.proofs.RoundTrip.{loses-nothing, all-fit}
 use Rattle.keyboard.specs.Keyboard.{event-of, lent-of, answered-numbers, refused-numbers, step-named, step-numbers}
 use Rattle.keyboard.specs.declared.OpenAnswer.{OpenAnswer}
 use Rattle.keyboard.specs.declared.StepAnswer.{StepAnswer}
@@ -60,23 +60,23 @@ opens s =
     (loses-nothing .none-named)
 
 -- the numbers of a machine after an event, at one that numbers name
-after-back : (g : Lent) (f : Flat) (x : Machine) (e : Event) → named f ≡ some x
-    → named (flat (step g x e .machine)) ≡ some (step g x e .machine)
+after-back : (g : Lent) (f : MachineNumbers) (x : Machine) (e : Event) → named f ≡ some x
+    → named (in-numbers (step g x e .machine)) ≡ some (step g x e .machine)
 after-back g f x e h = loses-nothing .back (step g x e .machine) (all-fit .step-fits g x e (all-fit .named-fits f x h))
 
-steps-on : (g : Lent) (f : Flat) (x : Machine) (e : Event) → named f ≡ some x
+steps-on : (g : Lent) (f : MachineNumbers) (x : Machine) (e : Event) → named f ≡ some x
     → named (step-numbers g f e .machine) ≡ some (step g x e .machine)
 unfolding step-numbers
 steps-on g f x e h = rw h (after-back g f x e h)
 
 -- of a machine's answer, by its verdict
-by-verdict : (g : Lent) (f : Flat) (x : Machine) (e : Event) → flat x ≡ f → (v : Verdict)
+by-verdict : (g : Lent) (f : MachineNumbers) (x : Machine) (e : Event) → in-numbers x ≡ f → (v : Verdict)
     → answered-numbers (answer g x (e .stamp) v) .number ≢ 0
     → answered-numbers (answer g x (e .stamp) v) ≡ refused-numbers f (answered-numbers (answer g x (e .stamp) v) .number)
 by-verdict g f x e same (refused n) h = rw same
 by-verdict g f x e same (accepted i) h = absurd (h refl)
 
-refuses : (g : Lent) (f : Flat) (e : Event) → step-numbers g f e .number ≢ 0
+refuses : (g : Lent) (f : MachineNumbers) (e : Event) → step-numbers g f e .number ≢ 0
     → step-numbers g f e ≡ refused-numbers f (step-numbers g f e .number)
 unfolding step-numbers step step-with
 refuses g f e = go (named f) refl
@@ -91,12 +91,12 @@ refuses g f e = go (named f) refl
         (lent-good g) (by (judge g x e)) (by (refused 12))
 
 -- a call at numbers that name a machine
-pub call-answers : (g : Lent) (f : Flat) (x : Machine) (e : Event) → named f ≡ some x → step-numbers g f e ≡ answered-numbers (step g x e)
+pub call-answers : (g : Lent) (f : MachineNumbers) (x : Machine) (e : Event) → named f ≡ some x → step-numbers g f e ≡ answered-numbers (step g x e)
 unfolding step-numbers
 call-answers g f x e h = rw h
 
 -- what calls answer, and what the last numbers name
-runs-from : (g : Lent) {f : Flat} {es : List Event} {rs : List StepAnswer} (x : Machine) → named f ≡ some x → KeyboardCalls g f es rs
+runs-from : (g : Lent) {f : MachineNumbers} {es : List Event} {rs : List StepAnswer} (x : Machine) → named f ≡ some x → KeyboardCalls g f es rs
     → (rs ≡ map answered-numbers (answers g x es)) × (named (last-numbers f rs) ≡ some (after g x es))
 runs-from g x h no-more = (refl, h)
 runs-from g x h (call {f = f} {kind = kind} {key = key} {stamp = stamp} {r = r} same more) =
@@ -119,7 +119,7 @@ from-opening {g} {s} run =
     let names = ap (λ (a : OpenAnswer). named (a .machine)) same ∙ opens s ∙ opened-fresh s zero in
     runs-from g (fresh s) names (run .calls)
 
-keeps-formed : (g : Lent) (f : Flat) (e : Event) → formed-numbers g (step-numbers g f e .machine) ≡ formed-numbers g f
+keeps-formed : (g : Lent) (f : MachineNumbers) (e : Event) → formed-numbers g (step-numbers g f e .machine) ≡ formed-numbers g f
 unfolding step-numbers
 keeps-formed g f e = go (named f) refl
   where

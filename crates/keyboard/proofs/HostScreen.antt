@@ -24,8 +24,8 @@ use Rattle.rules.specs.declared.Event.{Event}
 use Rattle.rules.proofs.Screen.{typed-append, typed-send, signs-append, run-shows}
 use Rattle.rules.proofs.StepFacts.{step-sizes, step-sendable}
 use Rattle.preview.specs.Views.{backspaces-among, packed-sendings}
-use Rattle.flat.specs.Fields.{no-machine, named}
-use Rattle.flat.specs.declared.Flat.{Flat}
+use Rattle.machine_numbers.specs.Fields.{no-machine, named}
+use Rattle.machine_numbers.specs.declared.MachineNumbers.{MachineNumbers}
 use Rattle.keyboard.specs.declared.StepAnswer.{StepAnswer}
 use Rattle.keyboard.specs.Keyboard.{word-of, words-of, answer-numbers, answered-numbers, step-numbers, told-numbers, distance-numbers}
 use Rattle.keyboard.specs.KeyboardFacts.{answers}
@@ -114,7 +114,7 @@ grows-all g line x (e ∷ es) =
 
 -- The number.
 
-number-back : (g : Lent) (f : Flat) (x : Machine) (e : Event) → named f ≡ some x → step-numbers g f e .number ≡ step g x e .number
+number-back : (g : Lent) (f : MachineNumbers) (x : Machine) (e : Event) → named f ≡ some x → step-numbers g f e .number ≡ step g x e .number
 unfolding step-numbers
 number-back g f x e h = rw h
 
@@ -122,17 +122,17 @@ told-number : (n : ℕ) (d : Option ℤ) → told-numbers n d .number ≡ n
 told-number n none = refl
 told-number n (some z) = refl
 
-asked-back : (g : Lent) (f : Flat) (x : Machine) (now : Stamp) → named f ≡ some x
+asked-back : (g : Lent) (f : MachineNumbers) (x : Machine) (now : Stamp) → named f ≡ some x
     → distance-numbers g f now .number ≡ asking g x now .number
 unfolding distance-numbers
 asked-back g f x now h = rw h (told-number (asking g x now .number) (asking g x now .distance))
 
-no-machine-12 : (g : Lent) (f : Flat) (e : Event) (now : Stamp) → named f ≡ none → lent-good g ≡ false
+no-machine-12 : (g : Lent) (f : MachineNumbers) (e : Event) (now : Stamp) → named f ≡ none → lent-good g ≡ false
     → (step-numbers g f e .number ≡ 12) × (distance-numbers g f now .number ≡ 12)
 unfolding step-numbers distance-numbers
 no-machine-12 g f e now h bad = (rw (h, bad), rw (h, bad))
 
-no-machine-2 : (g : Lent) (f : Flat) (e : Event) (now : Stamp) → named f ≡ none → lent-good g ≡ true
+no-machine-2 : (g : Lent) (f : MachineNumbers) (e : Event) (now : Stamp) → named f ≡ none → lent-good g ≡ true
     → (step-numbers g f e .number ≡ 2) × (distance-numbers g f now .number ≡ 2)
 unfolding step-numbers distance-numbers
 no-machine-2 g f e now h good = (rw (h, good), rw (h, good))

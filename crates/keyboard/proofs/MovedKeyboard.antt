@@ -12,7 +12,7 @@ use Rattle.rules.specs.declared.Machine.{Machine}
 use Rattle.rules.specs.declared.Event.{Event}
 use Rattle.rules.proofs.MovedClock.{clock-moved}
 use Rattle.preview.specs.Views.{packed-sendings}
-use Rattle.flat.specs.Fields.{numbers-of}
+use Rattle.machine_numbers.specs.Fields.{numbers-of}
 use Rattle.keyboard.specs.Keyboard.{words-of, answer-numbers, answered-numbers, asked-numbers}
 use Rattle.keyboard.specs.KeyboardFacts.{answers}
 use Rattle.keyboard.specs.MovedKeyboard.{besides-machine, Keyboard-moved}

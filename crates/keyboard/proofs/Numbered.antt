@@ -5,17 +5,18 @@ use mathlib.Core.List.{[], _∷_, cons≢nil}
 use mathlib.Core.Path.{_≡_, refl, sym, ap, _∙_}
 use lib.Dec.{eqb}
 use borrow.Author.Tests.{eqb-true}
-use Rattle.rules.specs.Choice.{if_then_else_}
+use Rattle.choice.specs.Choice.{if_then_else_}
 use Rattle.rules.specs.ZeroDelay.{sign-unless-0, character, sign-of}
 use Rattle.rules.specs.GivenBack.{Answer}
 use Rattle.rules.specs.declared.Thumb.the-variants.{Left, Right}
 use Rattle.rules.specs.declared.Item.{Item}
 use Rattle.rules.specs.declared.Item.the-variants.{Character, Mark, Together}
-use Rattle.preview.specs.Views.{listed, packed-sendings}
+use Rattle.rules.specs.Items.{listed}
+use Rattle.preview.specs.Views.{packed-sendings}
 use Rattle.engine.specs.Views.{Gives}
 use Rattle.engine.specs.declared.Stepped.{Stepped}
-use Rattle.flat.specs.Fields.{flat}
-use Rattle.flat.specs.declared.Flat.{Flat}
+use Rattle.machine_numbers.specs.Fields.{in-numbers}
+use Rattle.machine_numbers.specs.declared.MachineNumbers.{MachineNumbers}
 use Rattle.keyboard.specs.declared.Commits.{Commits}
 use Rattle.keyboard.specs.Keyboard.{word-of, words-of, answer-numbers, answered-numbers}
 
@@ -45,11 +46,11 @@ pub two-words : (v w : ℕ) (i j : Item) → sign-unless-0 v ≡ sign-of i → s
 two-words v w i j e f = rw (word-is v i e, word-is w j f)
 
 -- the engine's answer as numbers
-pub gives-numbers : {f : Flat} {c : Commits} (r : Stepped) {a : Answer} → Gives r a → f ≡ flat (r .machine)
+pub gives-numbers : {f : MachineNumbers} {c : Commits} (r : Stepped) {a : Answer} → Gives r a → f ≡ in-numbers (r .machine)
     → c ≡ words-of (listed (r .items))
     → answer-numbers f (r .number) c (r .sendings) ≡ answered-numbers a
 gives-numbers r {a} g e h =
     rw (e, h)
-    (ap (answer-numbers (flat (r .machine)) (r .number) (words-of (listed (r .items)))) (g .packed)
-    ∙ ap (λ (b : Answer). answer-numbers (flat (b .machine)) (b .number) (words-of (b .items)) (packed-sendings (a .sendings)))
+    (ap (answer-numbers (in-numbers (r .machine)) (r .number) (words-of (listed (r .items)))) (g .packed)
+    ∙ ap (λ (b : Answer). answer-numbers (in-numbers (b .machine)) (b .number) (words-of (b .items)) (packed-sendings (a .sendings)))
     (g .answer))

@@ -5,7 +5,7 @@ use mathlib.Core.Logic.{_≢_}
 use mathlib.Core.Path.{_≡_}
 use lib.Dec.{eqb}
 use lib.IntN.{pos, _-ℤ_}
-use Rattle.rules.specs.Choice.{if_then_else_}
+use Rattle.choice.specs.Choice.{if_then_else_}
 use Rattle.rules.specs.Numbers.{largest-stamp}
 use Rattle.rules.specs.Pairs.{Lent}
 use Rattle.rules.specs.States.{later}
@@ -13,7 +13,7 @@ use Rattle.rules.specs.DistanceFacts.{IsDue, late-line}
 use Rattle.rules.specs.declared.Stamp.{Stamp}
 use Rattle.rules.specs.declared.Machine.{Machine}
 use Rattle.rules.specs.declared.Event.{Event}
-use Rattle.flat.specs.declared.Flat.{Flat}
+use Rattle.machine_numbers.specs.declared.MachineNumbers.{MachineNumbers}
 use Rattle.keyboard.specs.declared.StepAnswer.{StepAnswer}
 use Rattle.keyboard.specs.declared.DistanceAnswer.{DistanceAnswer}
 use Rattle.keyboard.specs.Keyboard.{event-of, answered-numbers, refused-numbers, step-numbers, distance-numbers}
@@ -43,7 +43,7 @@ told-later r d =
       milliseconds = if eqb (r .deadline) 1 then r .milliseconds -ℤ pos d else r .milliseconds;
     }
 
-abbrev pub with-last : Flat → Stamp → Flat
+abbrev pub with-last : MachineNumbers → Stamp → MachineNumbers
 with-last f t =
     record {
       last = t;
@@ -63,7 +63,7 @@ with-last f t =
     }
 
 -- an accepted event that commits nothing, sends nothing and changes only the last stamp
-abbrev pub only-last-numbers : Flat → Stamp → StepAnswer
+abbrev pub only-last-numbers : MachineNumbers → Stamp → StepAnswer
 only-last-numbers f t = refused-numbers (with-last f t) 0
 
 -- an accepted event that does the line "late" of the machine, and nothing else
@@ -71,7 +71,7 @@ abbrev pub late-numbers : Lent → Machine → Stamp → StepAnswer
 late-numbers g x t = answered-numbers (late-line g x t)
 
 -- Of everything lent, every numbers f that name a machine x, and every stamp now at which asking is answered.
-pub record DistanceNumbers (g : Lent) (f : Flat) (x : Machine) (now : Stamp) : Type 0 where
+pub record DistanceNumbers (g : Lent) (f : MachineNumbers) (x : Machine) (now : Stamp) : Type 0 where
   -- a tick at the asked stamp commits something if and only if the answer is 0 or negative, and what it does is the line "late"
   pub due-commits : SaysDue (distance-numbers g f now) → step-numbers g f (tick-at now) .items ≢ 0
   pub commits-due : step-numbers g f (tick-at now) .items ≢ 0 → SaysDue (distance-numbers g f now)
@@ -90,5 +90,5 @@ pub record DistanceNumbers (g : Lent) (f : Flat) (x : Machine) (now : Stamp) : T
       → step-numbers g f (tick-at t) ≡ only-last-numbers f t
 
 -- Of everything lent, all numbers and stamps: asking is refused as a tick with that stamp is.
-abbrev pub SameRefusedNumbers : Lent → Flat → Stamp → Type 0
+abbrev pub SameRefusedNumbers : Lent → MachineNumbers → Stamp → Type 0
 SameRefusedNumbers g f now = distance-numbers g f now .number ≡ step-numbers g f (tick-at now) .number

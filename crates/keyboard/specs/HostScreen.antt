@@ -15,8 +15,8 @@ use Rattle.rules.specs.declared.Stamp.{Stamp}
 use Rattle.rules.specs.declared.Settings.{Settings}
 use Rattle.rules.specs.declared.Machine.{Machine}
 use Rattle.rules.specs.declared.Event.{Event}
-use Rattle.flat.specs.Fields.{named}
-use Rattle.flat.specs.declared.Flat.{Flat}
+use Rattle.machine_numbers.specs.Fields.{named}
+use Rattle.machine_numbers.specs.declared.MachineNumbers.{MachineNumbers}
 use Rattle.keyboard.specs.declared.OpenAnswer.{OpenAnswer}
 use Rattle.keyboard.specs.declared.StepAnswer.{StepAnswer}
 use Rattle.keyboard.specs.Keyboard.{word-of, answered-numbers, step-numbers, distance-numbers}
@@ -61,12 +61,12 @@ words-read r = take (r .items) (r .first ∷ r .second ∷ [])
 -- Of everything lent.
 pub record HostFacts (g : Lent) : Type 0 where
   -- Of numbers that name a machine: the number of an event, and of asking, is document 01's.
-  pub number-back : (f : Flat) (x : Machine) (e : Event) → named f ≡ some x → step-numbers g f e .number ≡ step g x e .number
-  pub asked-back : (f : Flat) (x : Machine) (now : Stamp) → named f ≡ some x → distance-numbers g f now .number ≡ asking g x now .number
+  pub number-back : (f : MachineNumbers) (x : Machine) (e : Event) → named f ≡ some x → step-numbers g f e .number ≡ step g x e .number
+  pub asked-back : (f : MachineNumbers) (x : Machine) (now : Stamp) → named f ≡ some x → distance-numbers g f now .number ≡ asking g x now .number
   -- Of numbers that name none: refused 12 if what is lent is not accepted, else 2.
-  pub no-machine-12 : (f : Flat) (e : Event) (now : Stamp) → named f ≡ none → lent-good g ≡ false
+  pub no-machine-12 : (f : MachineNumbers) (e : Event) (now : Stamp) → named f ≡ none → lent-good g ≡ false
       → (step-numbers g f e .number ≡ 12) × (distance-numbers g f now .number ≡ 12)
-  pub no-machine-2 : (f : Flat) (e : Event) (now : Stamp) → named f ≡ none → lent-good g ≡ true
+  pub no-machine-2 : (f : MachineNumbers) (e : Event) (now : Stamp) → named f ≡ none → lent-good g ≡ true
       → (step-numbers g f e .number ≡ 2) × (distance-numbers g f now .number ≡ 2)
   -- Of every machine and event: the numbers say all that is sent, and the words of all items.
   pub sendings-back : (x : Machine) (e : Event) → sendings-read (answered-numbers (step g x e)) ≡ step g x e .sendings

@@ -1,11 +1,11 @@
 -- A keyboard that the C host drives: opening, one event and asking for the distance, each as the numbers that the host hands over
--- and gets. The numbers of a machine are `flat`'s. g is what is lent (9/12).
+-- and gets. The numbers of a machine are `machine_numbers`'s. g is what is lent (9/12).
 use Prim.Native.Nat.{ℕ}
 use mathlib.Core.List.{List, map}
 use mathlib.Core.Option.{Option, none, some}
 use lib.IntN.{ℤ, pos}
 use lib.ListN.{length, getD}
-use Rattle.rules.specs.Choice.{if_then_else_}
+use Rattle.choice.specs.Choice.{if_then_else_}
 use Rattle.rules.specs.Layout.{code-point}
 use Rattle.rules.specs.Pairs.{Lent, lent-good}
 use Rattle.rules.specs.States.{Opening}
@@ -20,8 +20,8 @@ use Rattle.rules.specs.declared.Event.{Event}
 use Rattle.pairs.specs.Lent.{lent}
 use Rattle.preview.specs.Views.{packed-sendings}
 use Rattle.preview.specs.declared.Sendings.{Sendings}
-use Rattle.flat.specs.Fields.{flat, named, numbers-of}
-use Rattle.flat.specs.declared.Flat.{Flat}
+use Rattle.machine_numbers.specs.Fields.{in-numbers, named, numbers-of}
+use Rattle.machine_numbers.specs.declared.MachineNumbers.{MachineNumbers}
 use Rattle.keyboard.specs.declared.OpenAnswer.{OpenAnswer}
 use Rattle.keyboard.specs.declared.StepAnswer.{StepAnswer}
 use Rattle.keyboard.specs.declared.DistanceAnswer.{DistanceAnswer}
@@ -52,7 +52,7 @@ word-of (Together M K c) = c
 abbrev pub words-of : List Item → Commits
 words-of l = record { items = length l; first = getD (map word-of l) 0 0; second = getD (map word-of l) 1 0 }
 
-abbrev pub answer-numbers : Flat → ℕ → Commits → Sendings → StepAnswer
+abbrev pub answer-numbers : MachineNumbers → ℕ → Commits → Sendings → StepAnswer
 answer-numbers f n c q =
     record {
       machine = f;
@@ -68,10 +68,10 @@ answer-numbers f n c q =
 
 -- an answer of document 01, what is sent in its packed form
 abbrev pub answered-numbers : Answer → StepAnswer
-answered-numbers a = answer-numbers (flat (a .machine)) (a .number) (words-of (a .items)) (packed-sendings (a .sendings))
+answered-numbers a = answer-numbers (in-numbers (a .machine)) (a .number) (words-of (a .items)) (packed-sendings (a .sendings))
 
 -- refused: nothing committed, nothing sent, the numbers as given
-abbrev pub refused-numbers : Flat → ℕ → StepAnswer
+abbrev pub refused-numbers : MachineNumbers → ℕ → StepAnswer
 refused-numbers f n =
     record {
       machine = f;
@@ -89,11 +89,11 @@ refused-numbers f n =
 abbrev pub no-machine-number : Lent → ℕ
 no-machine-number g = if lent-good g then 2 else 12
 
-abbrev pub step-named : Lent → Flat → Event → Option Machine → StepAnswer
+abbrev pub step-named : Lent → MachineNumbers → Event → Option Machine → StepAnswer
 step-named g f e none = refused-numbers f (no-machine-number g)
 step-named g f e (some x) = answered-numbers (step g x e)
 
-unfoldable pub step-numbers : Lent → Flat → Event → StepAnswer
+unfoldable pub step-numbers : Lent → MachineNumbers → Event → StepAnswer
 step-numbers g f e = step-named g f e (named f)
 
 -- Asking.
@@ -111,5 +111,5 @@ abbrev pub distance-named : Lent → Stamp → Option Machine → DistanceAnswer
 distance-named g now none = asked-numbers (not-answered (no-machine-number g))
 distance-named g now (some x) = asked-numbers (asking g x now)
 
-unfoldable pub distance-numbers : Lent → Flat → Stamp → DistanceAnswer
+unfoldable pub distance-numbers : Lent → MachineNumbers → Stamp → DistanceAnswer
 distance-numbers g f now = distance-named g now (named f)

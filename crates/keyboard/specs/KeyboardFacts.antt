@@ -16,18 +16,18 @@ use Rattle.rules.specs.declared.Settings.{Settings}
 use Rattle.rules.specs.declared.Machine.{Machine}
 use Rattle.rules.specs.declared.Event.{Event}
 use Rattle.pairs.specs.LentFacts.{word}
-use Rattle.flat.specs.Fields.{named}
-use Rattle.flat.specs.Formed.{names-formed}
-use Rattle.flat.specs.declared.Flat.{Flat}
+use Rattle.machine_numbers.specs.Fields.{named}
+use Rattle.machine_numbers.specs.Formed.{names-formed}
+use Rattle.machine_numbers.specs.declared.MachineNumbers.{MachineNumbers}
 use Rattle.keyboard.specs.declared.OpenAnswer.{OpenAnswer}
 use Rattle.keyboard.specs.declared.StepAnswer.{StepAnswer}
 use Rattle.keyboard.specs.Keyboard.{event-of, lent-of, open-numbers, answered-numbers, refused-numbers, step-numbers}
 
 -- Calls of `trabeculon_step`, each with the machine that the one before gave back and with one list, T_s and N lent to all: what each
 -- answers, by the contract of that function in its own words.
-pub data KeyboardCalls (g : Lent) : Flat → List Event → List StepAnswer → Type 0 where
-  no-more : {f : Flat} → KeyboardCalls g f [] []
-  call : {f : Flat} {kind key : ℕ} {stamp : Stamp} {r : StepAnswer} {es : List Event} {rs : List StepAnswer}
+pub data KeyboardCalls (g : Lent) : MachineNumbers → List Event → List StepAnswer → Type 0 where
+  no-more : {f : MachineNumbers} → KeyboardCalls g f [] []
+  call : {f : MachineNumbers} {kind key : ℕ} {stamp : Stamp} {r : StepAnswer} {es : List Event} {rs : List StepAnswer}
       → r ≡ step-numbers g f (event-of kind key stamp)
       → KeyboardCalls g (r .machine) es rs
       → KeyboardCalls g f (event-of kind key stamp ∷ es) (r ∷ rs)
@@ -39,7 +39,7 @@ pub record KeyboardRun (g : Lent) (s : Settings) (first : OpenAnswer) (es : List
   pub calls : KeyboardCalls g (first .machine) es rs
 
 -- the machine that the last call gave back
-abbrev pub last-numbers : Flat → List StepAnswer → Flat
+abbrev pub last-numbers : MachineNumbers → List StepAnswer → MachineNumbers
 last-numbers f [] = f
 last-numbers f (r ∷ rs) = last-numbers (r .machine) rs
 
@@ -48,7 +48,7 @@ abbrev pub answers : Lent → Machine → List Event → List Answer
 answers g x es = along g (λ m e a. a ∷ []) x es
 
 -- numbers that name a machine which is well formed: no others are accepted
-abbrev pub formed-numbers : Lent → Flat → Bool
+abbrev pub formed-numbers : Lent → MachineNumbers → Bool
 formed-numbers g f = names-formed g (named f)
 
 -- Of everything lent.
@@ -58,9 +58,9 @@ pub record KeyboardFacts (g : Lent) : Type 0 where
   -- The numbers that opening gives name the machine that it opened, or none if the settings are refused.
   pub opens : (s : Settings) → named (open-numbers (opening s) .machine) ≡ opening s .machine
   -- The numbers after an event name the machine after it, so calls that hand them on are the steps of one machine.
-  pub steps-on : (f : Flat) (x : Machine) (e : Event) → named f ≡ some x → named (step-numbers g f e .machine) ≡ some (step g x e .machine)
+  pub steps-on : (f : MachineNumbers) (x : Machine) (e : Event) → named f ≡ some x → named (step-numbers g f e .machine) ≡ some (step g x e .machine)
   -- A refused event commits nothing and sends nothing, and the numbers are as given, whatever they are.
-  pub refuses : (f : Flat) (e : Event) → step-numbers g f e .number ≢ 0
+  pub refuses : (f : MachineNumbers) (e : Event) → step-numbers g f e .number ≢ 0
       → step-numbers g f e ≡ refused-numbers f (step-numbers g f e .number)
   -- Calls from a machine that was opened are answered as document 01 answers the same events from a fresh state. Of those answers
   -- demand 3 speaks.
@@ -71,4 +71,4 @@ pub record KeyboardFacts (g : Lent) : Type 0 where
       → named (last-numbers (first .machine) rs) ≡ some (state g s es)
   -- An event leaves numbers as well formed as they were. So a host may save the numbers of a machine that it was given, and go on
   -- with them later.
-  pub keeps-formed : (f : Flat) (e : Event) → formed-numbers g (step-numbers g f e .machine) ≡ formed-numbers g f
+  pub keeps-formed : (f : MachineNumbers) (e : Event) → formed-numbers g (step-numbers g f e .machine) ≡ formed-numbers g f

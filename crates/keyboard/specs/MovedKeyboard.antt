@@ -11,8 +11,8 @@ use Rattle.rules.specs.MovedClock.{moved-events, moved-state, Stays, AllStay}
 use Rattle.rules.specs.declared.Stamp.{Stamp}
 use Rattle.rules.specs.declared.Settings.{Settings}
 use Rattle.rules.specs.declared.Event.{Event}
-use Rattle.flat.specs.Fields.{named}
-use Rattle.flat.specs.declared.Flat.{Flat}
+use Rattle.machine_numbers.specs.Fields.{named}
+use Rattle.machine_numbers.specs.declared.MachineNumbers.{MachineNumbers}
 use Rattle.keyboard.specs.declared.OpenAnswer.{OpenAnswer}
 use Rattle.keyboard.specs.declared.StepAnswer.{StepAnswer}
 use Rattle.keyboard.specs.Keyboard.{distance-numbers}
@@ -26,7 +26,7 @@ besides-machine a =
 -- Of the answers to calls with the events es and g lent, and to the same calls with k added to every stamp; before and after are the
 -- machine's numbers that the last calls gave back.
 pub record KeyboardMoved (g : Lent) (k : ℕ) (s : Settings) (es : List Event) (rs moved : List StepAnswer)
-    (before after : Flat) : Type 0 where
+    (before after : MachineNumbers) : Type 0 where
   -- at each call the same numbers
   pub same-numbers : map besides-machine moved ≡ map besides-machine rs
   -- the numbers of a machine name it: the state that the events leave, and that state with its stamps moved

@@ -2,8 +2,8 @@
 use engine::Asked;
 use engine::Items;
 use engine::Sendings;
-use flat::Flat;
-use flat::Named;
+use machine_numbers::MachineNumbers;
+use machine_numbers::Named;
 use pairs::Times;
 use pairs::lent_good;
 use rules::Event;
@@ -14,7 +14,7 @@ use rules::Settings;
 use rules::Stamp;
 ghost use mathlib.Core.Path.{_≡_};
 ghost use Rattle.rules.specs.States.{opening};
-ghost use Rattle.preview.specs.Views.{listed};
+ghost use Rattle.rules.specs.Items.{listed};
 ghost use Rattle.pairs.specs.Lent.{lent};
 ghost use Rattle.deadlines.specs.Views.{asked};
 ghost use Rattle.rules.specs.Numbers.{settings-of};
@@ -25,7 +25,7 @@ ghost use Rattle.keyboard.specs.Keyboard.{asked-numbers, distance-number
 // A fresh machine, or refusal 1 and numbers that name no machine.
 #[repr(C)]
 pub struct OpenAnswer {
-    pub machine: Flat,
+    pub machine: MachineNumbers,
     pub number: u64,
 }
 
@@ -33,7 +33,7 @@ pub struct OpenAnswer {
 // signs, packed to the front, 0 behind the last.
 #[repr(C)]
 pub struct StepAnswer {
-    pub machine: Flat,
+    pub machine: MachineNumbers,
     pub number: u32,
     pub items: u32,
     pub first: u16,
@@ -70,18 +70,18 @@ fn committed(items: Items) -> Commits
         },
         Items::One(item) => Commits {
             items: 1,
-            first: preview::word(item),
+            first: layout::word(item),
             second: 0,
         },
         Items::Two(item, other) => Commits {
             items: 2,
-            first: preview::word(item),
-            second: preview::word(other),
+            first: layout::word(item),
+            second: layout::word(other),
         },
     }
 }
 
-fn answer(machine: Flat, number: u8, words: Commits, sent: Sendings) -> StepAnswer
+fn answer(machine: MachineNumbers, number: u8, words: Commits, sent: Sendings) -> StepAnswer
     ensures { λ r. ⌜ r ≡ answer-numbers machine number words sent ⌝ }
 {
     let signs = sent.signs;
@@ -109,7 +109,7 @@ fn no_machine_number(pairs: &[u32], times: Times) -> u32
 }
 
 // A refusal, with the numbers as given.
-fn refused(machine: Flat, number: u32) -> StepAnswer
+fn refused(machine: MachineNumbers, number: u32) -> StepAnswer
     ensures { λ r. ⌜ r ≡ refused-numbers machine number ⌝ }
 {
     StepAnswer {
@@ -161,11 +161,11 @@ pub extern "C" fn trabeculon_open(t: u16, j: u8, l: u8, solo: u8) -> OpenAnswer
     };
     match Machine::open(settings) {
         Opened::OutOfRange => OpenAnswer {
-            machine: flat::no_machine(),
+            machine: machine_numbers::no_machine(),
             number: 1,
         },
         Opened::Ready(machine) => OpenAnswer {
-            machine: flat::flatten(machine),
+            machine: machine_numbers::in_numbers(machine),
             number: 0,
         },
     }
@@ -174,7 +174,7 @@ pub extern "C" fn trabeculon_open(t: u16, j: u8, l: u8, solo: u8) -> OpenAnswer
 // One event at a machine, with a list of pairs, T_s and N lent.
 #[no_mangle]
 pub extern "C" fn trabeculon_step(
-    machine: Flat,
+    machine: MachineNumbers,
     pairs: &[u32],
     ts: u16,
     n: u8,
@@ -185,7 +185,7 @@ pub extern "C" fn trabeculon_step(
     ensures { λ r. ⌜ r ≡ step-numbers (lent-of (now (pairs .entry)) ts n) machine (event-of kind key stamp) ⌝ }
 {
     let times = Times { ts: ts, n: n };
-    match flat::machine_of(machine) {
+    match machine_numbers::machine_of(machine) {
         Named::None => refused(machine, no_machine_number(pairs, times)),
         Named::Some(before) => {
             let done = engine::step(
@@ -201,7 +201,7 @@ pub extern "C" fn trabeculon_step(
             let after = done.machine;
             let items = done.items;
             let sent = done.sendings;
-            answer(flat::flatten(after), done.number, committed(items), sent)
+            answer(machine_numbers::in_numbers(after), done.number, committed(items), sent)
         }
     }
 }
@@ -209,7 +209,7 @@ pub extern "C" fn trabeculon_step(
 // How far the next deadline of a machine lies from a stamp.
 #[no_mangle]
 pub extern "C" fn trabeculon_distance(
-    machine: Flat,
+    machine: MachineNumbers,
     pairs: &[u32],
     ts: u16,
     n: u8,
@@ -218,7 +218,7 @@ pub extern "C" fn trabeculon_distance(
     ensures { λ r. ⌜ r ≡ distance-numbers (lent-of (now (pairs .entry)) ts n) machine stamp ⌝ }
 {
     let times = Times { ts: ts, n: n };
-    match flat::machine_of(machine) {
+    match machine_numbers::machine_of(machine) {
         Named::None => told(no_machine_number(pairs, times), 0, 0),
         Named::Some(asked) => distance_answer(engine::distance(pairs, times, asked, stamp)),
     }

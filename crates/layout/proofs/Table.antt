@@ -12,7 +12,7 @@ use Rattle.rules.specs.declared.Key.{Key}
 use Rattle.rules.specs.declared.Thumb.the-variants.{Left, Right}
 use Rattle.rules.specs.declared.Face.{Face}
 use Rattle.rules.specs.declared.Face.the-variants.{Plain, With}
-use Rattle.rules.proofs.Choices.{by-test}
+use Rattle.choice.proofs.Choices.{by-test}
 use Rattle.layout.specs.Column.{column-of, rows, code-point-in, In-rows}
 
 pub column-below : (f : Face) → column-of f < 3

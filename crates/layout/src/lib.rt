@@ -1,11 +1,14 @@
-// The layout of document 01: the character on each face of the thirty-one keys.
+// The layout of document 01: the character on each face of the thirty-one keys, and the word of a committed item by it.
 use rules::Face;
+use rules::Item;
 use rules::Key;
 use rules::Machine;
 use rules::Thumb;
 ghost use mathlib.Core.Path.{_≡_};
 ghost use Rattle.rules.specs.Layout.{code-point};
+ghost use Rattle.rules.specs.ZeroDelay.{sign-unless-0, mark-word, sign-of};
 ghost use Rattle.layout.specs.Column.{column-of, rows, code-point-in};
+ghost use Rattle.layout.specs.Words.{word-in};
 
 // A row for each key: its code point on the plain face, with the left thumb, with the right thumb; 0 for an empty face.
 const FACES: [[u16; 3]; 31] = [
@@ -87,4 +90,32 @@ pub fn code_point(key: Key, face: Face) -> u16
 {
     let table = faces();
     code_point_in(&table, key, face)
+}
+
+fn mark_word(thumb: Thumb) -> u16
+    ensures { λ r. ⌜ r ≡ mark-word thumb ⌝ }
+{
+    match thumb {
+        Thumb::Left => 1,
+        Thumb::Right => 2,
+    }
+}
+
+// The sign of an item by a lent table of faces, 0 for an empty face.
+pub fn word_in(table: &[[u16; 3]; 31], item: Item) -> u16
+    ensures { λ r. ⌜ r ≡ word-in (now (table .entry)) item ⌝ }
+{
+    match item {
+        Item::Character(key, face) => code_point_in(table, key, face),
+        Item::Mark(thumb) => mark_word(thumb),
+        Item::Together(_, _, c) => c,
+    }
+}
+
+// The sign of an item by the layout.
+pub fn word(item: Item) -> u16
+    ensures { λ r. ⌜ sign-unless-0 r ≡ sign-of item ⌝ }
+{
+    let table = faces();
+    word_in(&table, item)
 }

@@ -14,7 +14,7 @@ use Rattle.rules.specs.declared.Key.{Key}
 use Rattle.rules.specs.declared.Thumb.the-variants.{Left, Right}
 use Rattle.rules.specs.declared.Face.{Face}
 use Rattle.rules.specs.declared.Face.the-variants.{Plain, With}
-use Rattle.rules.proofs.Choices.{by-test}
+use Rattle.choice.proofs.Choices.{by-test}
 use Rattle.rules.proofs.LayoutFacts.{layout-facts, is-there}
 use Rattle.lookup.specs.Places.{Place, place, key-from, on-face, or-else, place-of}
 use Rattle.lookup.specs.PlaceFacts.{PlaceFacts}

@@ -7,8 +7,8 @@ use mathlib.Core.Option.{Option, none, some}
 use mathlib.Core.Path.{_≡_, ap, _∙_}
 use lib.Dec.{leb}
 use lib.ListN.{length}
-use Rattle.rules.specs.Choice.{if_then_else_}
-use Rattle.rules.proofs.Choices.{by-test}
+use Rattle.choice.specs.Choice.{if_then_else_}
+use Rattle.choice.proofs.Choices.{by-test}
 use Rattle.mending.specs.Mending.{parts, copied-bytes, dropped-from, refusal, Mending, nothing, unless-refused, mend}
 use Rattle.mender.specs.Runs.{Mends}
 use Rattle.mender.specs.declared.Mended.{Mended}

@@ -10,7 +10,7 @@ use mathlib.Core.Path.{_≡_, refl, sym, ap, _∙_}
 use lib.Dec.{eqb, leb}
 use lib.ListN.{length, take, length-append}
 use lib.Seq.{take-at}
-use Rattle.rules.specs.Choice.{if_then_else_}
+use Rattle.choice.specs.Choice.{if_then_else_}
 use Rattle.rules.specs.Pairs.{Lent, lent-good, no-pairs}
 use Rattle.rules.specs.States.{well-formed, opening}
 use Rattle.rules.specs.GivenBack.{input, Verdict, refused as refused-event, accepted as accepted-event, judge-input, judge, answer}
@@ -18,12 +18,12 @@ use Rattle.rules.specs.GivenBack.{step-with}
 use Rattle.rules.specs.declared.Machine.{Machine}
 use Rattle.rules.specs.declared.Event.{Event}
 use Rattle.rules.specs.declared.Input.{Input}
-use Rattle.rules.proofs.Choices.{both-ways, by-test}
+use Rattle.choice.proofs.Choices.{both-ways, by-test}
 use Rattle.keylog.specs.Records.{byte, stated, is-settings, settings, is-event, event, is-list, list}
 use Rattle.keylog.specs.LogRecords.{cut-up, records-of, tail-of}
 use Rattle.keylog.specs.Walk.{Place}
-use Rattle.keylog.specs.Reader.{Desk, closed, opened, running, Effect, refused, accepted, by-opening, by-list, by-step, by-event, effect}
-use Rattle.keylog.specs.Reader.{Reading, fresh, refuse, accept, judge as judge-record, unless-refused, read-record, is-cut, at-end, read}
+use Rattle.keylog.specs.Reader.{Desk, closed, opened, running, RecordEffect, refused, accepted, by-opening, by-list, by-step, by-event, record-effect}
+use Rattle.keylog.specs.Reader.{Reading, fresh, refuse, accept, unless-refused, read-record, is-cut, at-end, read}
 use Rattle.keylog.proofs.Walking.{over}
 use Rattle.keylog.proofs.Reading.{read-records}
 use Rattle.mending.specs.Laws.{joined}
@@ -54,7 +54,7 @@ allowed g m e z =
     by-input (some i) is _ = record { meant = i; is-meant = is }
 
 -- what is accepted has one of the shapes
-abbrev Shaped : List ℕ → Effect → Type 0
+abbrev Shaped : List ℕ → RecordEffect → Type 0
 Shaped r (refused n) = Unit {0}
 Shaped r (accepted d ws) = Shape r
 
@@ -71,8 +71,8 @@ module _ (r : List ℕ) where
   opening-shaped is n none = tt
   opening-shaped is n (some m) = of-settings is
 
-  effect-shaped : (d : Desk) → Shaped r (effect d r)
-  unfolding effect
+  effect-shaped : (d : Desk) → Shaped r (record-effect d r)
+  unfolding record-effect
   effect-shaped closed =
       by-test (Shaped r) (is-settings r) (λ is. opening-shaped is (opening (settings r) .number) (opening (settings r) .machine)) (λ _. tt)
   effect-shaped (opened m) =
@@ -119,17 +119,17 @@ module _ (room : ℕ) where
               ∙ omega (arith, length-append r (joined (more .good)));
         }
 
-    by-effect : ((y : Reading) → y .refusal ≡ none → Split y rs) → (f : Effect) → effect (x .desk) r ≡ f → Split x (r ∷ rs)
+    by-its-effect : ((y : Reading) → y .refusal ≡ none → Split y rs) → (f : RecordEffect) → record-effect (x .desk) r ≡ f → Split x (r ∷ rs)
     unfolding read-record
-    by-effect more (refused n) is = stopped n (rw (e, is))
-    by-effect more (accepted d ws) is =
+    by-its-effect more (refused n) is = stopped n (rw (e, is))
+    by-its-effect more (accepted d ws) is =
         let s : Shape r = rw is at (effect-shaped r (x .desk)) in
         by-test (λ (y : Reading). read-record room x r ≡ y → Split x (r ∷ rs)) (leb (length (x .words) + length ws) room)
         (λ _. went-on d ws s (more (accept x r d ws) refl)) (λ _. stopped 8) (rw (e, is))
 
   split : (rs : List (List ℕ)) (x : Reading) → x .refusal ≡ none → Split x rs
   split [] x e = record { good = []; others = []; all = refl; shapes = tt; offset-is = omega arith }
-  split (r ∷ rs) x e = by-effect r rs x e (λ y f. split rs y f) (effect (x .desk) r) refl
+  split (r ∷ rs) x e = by-its-effect r rs x e (λ y f. split rs y f) (record-effect (x .desk) r) refl
 
   -- the end of a log leaves the offset as it was
   offset-at-end : (w : Place Reading) (o : Option ℕ) (t : Bool)

@@ -7,11 +7,11 @@ use mathlib.Core.List.{List, [], _∷_, _++_}
 use mathlib.Core.Path.{_≡_, refl}
 use lib.Dec.{eqb, ltb}
 use Rattle.io.specs.Digits.{glyph, digits}
-use Rattle.rules.proofs.Choices.{both-ways, either}
+use Rattle.choice.proofs.Choices.{both-ways, either}
 use Rattle.text.specs.Text.{ascii}
-use Rattle.numbers.specs.Decimals.{is-digit}
-use Rattle.status.specs.Decimal.{places, decimal}
-use Rattle.status.specs.Status.{status}
+use Rattle.decimals.specs.Decimals.{is-digit}
+use Rattle.status_line.specs.Decimal.{places, decimal}
+use Rattle.status_line.specs.Status.{status}
 use Rattle.notation.specs.Notation.{meaning, refusal-text}
 use Rattle.notation.specs.Transcribing.{start, in-comment, takes-letters, digit-value, is-blank, ends-entry, ended, at-sign}
 use Rattle.notation.specs.Transcribing.{entry-step, step, Log, from}

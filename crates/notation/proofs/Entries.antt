@@ -8,17 +8,17 @@ use mathlib.Core.Option.{Option, none, some, Option·none-ne-some}
 use mathlib.Core.Path.{_≡_, refl, sym, ap, _∙_, subst}
 use lib.Dec.{eqb}
 use lib.ListN.{length}
-use Rattle.rules.specs.Choice.{if_then_else_}
+use Rattle.choice.specs.Choice.{if_then_else_}
 use Rattle.rules.specs.Pairs.{Pair, Lent}
 use Rattle.rules.specs.GivenBack.{with-thumb, with-0, input}
 use Rattle.rules.specs.declared.Thumb.{Thumb}
 use Rattle.rules.specs.declared.Input.the-variants.{ThumbDown, ThumbUp, FunctionDown, Tick}
 use Rattle.rules.specs.declared.Input.{Input}
-use Rattle.rules.proofs.Choices.{either}
+use Rattle.choice.proofs.Choices.{either}
 use Rattle.text.specs.Text.{ascii}
-use Rattle.numbers.specs.Decimals.{is-digit}
-use Rattle.status.specs.Decimal.{decimal}
-use Rattle.status.specs.Status as lines
+use Rattle.decimals.specs.Decimals.{is-digit}
+use Rattle.status_line.specs.Decimal.{decimal}
+use Rattle.status_line.specs.Status as lines
 use Rattle.keylog.specs.Records.{byte, number, tag, stated, is-settings, settings, is-event, event, is-list, pair-at, pairs-from, list}
 use Rattle.keylog.proofs.Kept.{list-facts}
 use Rattle.notation.specs.Notation.{settings-text, pair-text, pairs-text, list-text, stroke-text, event-text, record-text}

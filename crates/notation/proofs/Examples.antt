@@ -1,6 +1,6 @@
 -- The worked examples are computed.
 use mathlib.Core.Path.{refl}
-use Rattle.numbers.specs.Decimals.{is-digit}
+use Rattle.decimals.specs.Decimals.{is-digit}
 use Rattle.notation.specs.Transcribing.{is-blank, ends-entry, with-sign, takes-letters, digit-value, following, ended, at-digit}
 use Rattle.notation.specs.Transcribing.{at-sign, entry-step, step, from, transcribed}
 use Rattle.notation.specs.Examples.{Texts-taken}

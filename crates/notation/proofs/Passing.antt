@@ -9,9 +9,9 @@ use mathlib.Core.List.{List, [], _∷_, _++_, append-assoc}
 use mathlib.Core.Path.{_≡_, refl, sym, ap, _∙_}
 use lib.Dec.{ltb}
 use Rattle.io.specs.Digits.{glyph, digits}
-use Rattle.rules.proofs.Choices.{by-test}
-use Rattle.numbers.specs.Decimals.{is-digit}
-use Rattle.status.specs.Decimal.{places, decimal}
+use Rattle.choice.proofs.Choices.{by-test}
+use Rattle.decimals.specs.Decimals.{is-digit}
+use Rattle.status_line.specs.Decimal.{places, decimal}
 use Rattle.notation.specs.declared.Field.{Field}
 use Rattle.notation.specs.declared.Field.the-variants.{Second, Character}
 use Rattle.notation.specs.declared.Progress.{Progress}

@@ -9,8 +9,8 @@ use mathlib.Core.Path.{_≡_, refl, sym, ap, _∙_}
 use lib.Dec.{ltb}
 use lib.ListN.{length, take, drop, take-append-drop, List·getD-append, List·getD-eq-default}
 use lib.Seq.{take-all, getD-append-add}
-use Rattle.numbers.specs.Decimals.{is-digit}
-use Rattle.rules.proofs.Choices.{either}
+use Rattle.decimals.specs.Decimals.{is-digit}
+use Rattle.choice.proofs.Choices.{either}
 use Rattle.keylog.specs.Records.{byte, tag, stated, event}
 use Rattle.keylog.specs.LogRecords.{records-of}
 use Rattle.keylog.specs.Reader.{read, number-of}

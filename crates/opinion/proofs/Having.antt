@@ -5,10 +5,10 @@ use mathlib.Core.Bool.{true}
 use mathlib.Core.Path.{_≡_}
 use mathlib.Core.List.{List}
 use lib.ListN.{length}
-use Rattle.inspected.specs.OfLog.{on-log}
-use Rattle.verdict.specs.Shows.{longest-log, text-room, fits, shown, Shows, Within}
-use Rattle.verdict.specs.declared.Shown.{Shown}
-use Rattle.verdict.specs.declared.Shown.the-variants.{Unread, Text}
+use Rattle.log_opinions.specs.OfLog.{on-log}
+use Rattle.opinion_text.specs.Shows.{longest-log, text-room, fits, shown, Shows, Within}
+use Rattle.opinion_text.specs.declared.Shown.{Shown}
+use Rattle.opinion_text.specs.declared.Shown.the-variants.{Unread, Text}
 use Rattle.opinion.specs.Texts.{Has-text}
 
 pub has-text : (l run : List ℕ) (answer : Shown) (after : List ℕ)

@@ -8,13 +8,13 @@ mod messages;
 use input::Input;
 use libc::STDERR_FILENO;
 use libc::STDOUT_FILENO;
-use verdict::LONGEST_LOG;
-use verdict::Shown;
-use verdict::TEXT_ROOM;
+use opinion_text::LONGEST_LOG;
+use opinion_text::Shown;
+use opinion_text::TEXT_ROOM;
 ghost use Prim.Native.Nat.{_≤_};
 ghost use mathlib.Core.Path.{_≡_};
 ghost use lib.ListN.{length};
-ghost use Rattle.verdict.specs.Shows.{longest-log, text-room};
+ghost use Rattle.opinion_text.specs.Shows.{longest-log, text-room};
 ghost use Rattle.opinion.specs.Texts.{Has-text};
 
 // Buffers as they are given: a parameter's length is known by its type, that of a new array would take too long to compute.
@@ -58,7 +58,7 @@ fn print_log(log: &[u8], out: &mut [u8])
     requires { ⌜ length (now log) ≤ longest-log ⌝ }
     requires { ⌜ text-room ≤ length (now out) ⌝ }
 {
-    let shown = verdict::show(log, out);
+    let shown = opinion_text::show(log, out);
     print_text(shown, out);
 }
 

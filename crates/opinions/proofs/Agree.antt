@@ -7,7 +7,7 @@ use mathlib.Core.Option.{Option, none, some}
 use mathlib.Core.Path.{_≡_, refl, sym, ap, _∙_}
 use lib.Dec.{eqb, ltb, leb}
 use lib.ListN.{length}
-use Rattle.rules.specs.Choice.{if_then_else_}
+use Rattle.choice.specs.Choice.{if_then_else_}
 use Rattle.rules.specs.Pairs.{Lent, pair-of, in-some-pair, alone as alone-wait}
 use Rattle.rules.specs.States.{lag, deadline}
 use Rattle.rules.specs.OneEvent.{Done, _leaving_, nothing, same-key, same-thumb, second-character-takes-thumb, second-thumb-takes-character}
@@ -24,7 +24,7 @@ use Rattle.rules.specs.declared.Resting.{Resting}
 use Rattle.rules.specs.declared.Resting.the-variants.{S1, S2, S3, S4, S5, S6, S7, S8}
 use Rattle.rules.specs.declared.Input.{Input}
 use Rattle.rules.specs.declared.Input.the-variants.{CharacterDown, CharacterUp, ThumbDown, ThumbUp, FunctionDown, Tick}
-use Rattle.rules.proofs.Choices.{either}
+use Rattle.choice.proofs.Choices.{either}
 use Rattle.rules.proofs.Late.{settle-once}
 use Rattle.opinions.specs.Earlier.{is}
 use Rattle.opinions.specs.Opinion.{matters, late, ahead, short, Set, free, thumb, given, Decision, over, on, after, which}

@@ -8,7 +8,7 @@ use mathlib.Core.Option.{Option, none, some, Option·none-ne-some, Option·some-
 use mathlib.Core.Path.{_≡_, refl, sym, ap, _∙_, subst}
 use lib.Dec.{eqb, ltb}
 use lib.ListN.{length, length-append}
-use Rattle.rules.specs.Choice.{if_then_else_}
+use Rattle.choice.specs.Choice.{if_then_else_}
 use Rattle.rules.specs.Numbers.{keys, largest-stamp, in-range}
 use Rattle.rules.specs.Held.{is-held, held-below as keys-below, held-keys, how-many}
 use Rattle.rules.specs.Pairs.{Lent, lent-good, same-key}
@@ -23,7 +23,7 @@ use Rattle.rules.specs.declared.Machine.{Machine}
 use Rattle.rules.specs.declared.Event.{Event}
 use Rattle.rules.specs.declared.Input.{Input}
 use Rattle.rules.specs.declared.Input.the-variants.{CharacterDown, CharacterUp, ThumbDown, ThumbUp, FunctionDown, Tick}
-use Rattle.rules.proofs.Choices.{by-test, either}
+use Rattle.choice.proofs.Choices.{by-test, either}
 use Rattle.rules.proofs.Held.{none-held, counts-keys}
 use Rattle.rules.proofs.Steps.{Accepted, taken, machine-formed, step-cases}
 use Rattle.rules.proofs.Formed.{stays-formed, sequence-facts}

@@ -5,7 +5,8 @@ use Prim.Native.Nat.{ℕ, zero, suc, _+_}
 use mathlib.Core.Bool.{Bool, false, _&&_, _||_, not}
 use mathlib.Core.List.{List, [], _∷_}
 use lib.Dec.{eqb, ltb}
-use Rattle.rules.specs.{Choice.{if_then_else_}, Numbers.{keys, largest-stamp, most-held}}
+use Rattle.choice.specs.Choice.{if_then_else_}
+use Rattle.rules.specs.{Numbers.{keys, largest-stamp, most-held}}
 use Rattle.rules.specs.declared.{Stamp.{Stamp}, Key.{Key}, Event.{Event}}
 
 abbrev pub is : ℕ → Event → Bool

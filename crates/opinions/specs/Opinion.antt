@@ -8,7 +8,8 @@ use mathlib.Core.List.{List, [], _∷_, _++_}
 use mathlib.Core.Option.{Option, none, some}
 use lib.Dec.{eqb, ltb, leb}
 use lib.ListN.{length}
-use Rattle.rules.specs.{Choice.{if_then_else_}, Numbers.{short-overlap-time, A, B, FJ, FL}, Sequences.{Press, press}}
+use Rattle.choice.specs.Choice.{if_then_else_}
+use Rattle.rules.specs.{Numbers.{short-overlap-time, A, B, FJ, FL}, Sequences.{Press, press}}
 use Rattle.rules.specs.declared.{Stamp.{Stamp}, Thumb.{Thumb}, Settings.{Settings}, Item.{Item}, Event.{Event}}
 use Rattle.rules.specs.declared.{Thumb.the-variants.{Left, Right}, Face.the-variants.{Plain, With}, Item.the-variants.{Character, Mark}}
 use Rattle.opinions.specs.Earlier.{is, heard}

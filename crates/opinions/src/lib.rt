@@ -1,1 +1,1 @@
-// A plain second opinion on accepted events: definitions and laws alone. The code is in `second`.
+// A plain second opinion on accepted events: definitions and laws alone. The code is in `second_opinion`.

@@ -8,16 +8,16 @@ use lib.ListN.{length, take}
 use lib.Seq.{length-take-le}
 use Rattle.keylog.specs.Pieces as pieces
 use Rattle.keylog.specs.Pieces.{longest-log, so-far}
-use Rattle.pieces.specs.Listed.{room}
-use Rattle.pieces.specs.Views.{reader-of}
-use Rattle.pieces.specs.declared.reader.Reader.{Reader}
-use Rattle.report.specs.Printed.{closing}
-use Rattle.report.specs.Played.{buffer, text-room, played, brought, last, shown-of, Shows, Shown-within, Closes, Ending-within}
-use Rattle.report.specs.HoweverPlayed.{Reached}
-use Rattle.report.specs.declared.Shown as Shown
-use Rattle.report.specs.declared.Ending as Ending
-use Rattle.report.proofs.Sequences.{reached-start, reached-more, reached-counts}
-use Rattle.report.proofs.Reporting.{roomy, fitting, reached-number}
+use Rattle.log_reader.specs.Listed.{room}
+use Rattle.log_reader.specs.Views.{reader-of}
+use Rattle.log_reader.specs.declared.reader.Reader.{Reader}
+use Rattle.play_text.specs.Printed.{closing}
+use Rattle.play_text.specs.Played.{buffer, text-room, played, brought, last, shown-of, Shows, Shown-within, Closes, Ending-within}
+use Rattle.play_text.specs.HoweverPlayed.{Reached}
+use Rattle.play_text.specs.declared.Shown as Shown
+use Rattle.play_text.specs.declared.Ending as Ending
+use Rattle.play_text.proofs.Sequences.{reached-start, reached-more, reached-counts}
+use Rattle.play_text.proofs.Reporting.{roomy, fitting, reached-number}
 use Rattle.input.specs.Reads.{Taken}
 use Rattle.input.specs.declared.Piece.{Piece}
 use Rattle.input.specs.declared.Piece.the-variants.{Bytes}

@@ -5,9 +5,9 @@ use mathlib.Core.Logic.{_≢_}
 use mathlib.Core.Option.{none}
 use mathlib.Core.Path.{_≡_}
 use Rattle.keylog.specs.Pieces.{Reader}
-use Rattle.pieces.specs.Views.{reader-of}
-use Rattle.report.specs.declared.Shown as Shown
-use Rattle.report.specs.declared.Ending as Ending
+use Rattle.log_reader.specs.Views.{reader-of}
+use Rattle.play_text.specs.declared.Shown as Shown
+use Rattle.play_text.specs.declared.Ending as Ending
 use Rattle.play.specs.declared.Turn.{Turn}
 use Rattle.play.specs.declared.Turn.the-variants.{More, Refused, Failed}
 

@@ -10,20 +10,20 @@ mod messages;
 use input::Piece;
 use libc::STDERR_FILENO;
 use libc::STDOUT_FILENO;
-use pieces::Reader;
-use pieces::Told;
-use report::BUFFER;
-use report::Ending;
-use report::Shown;
-use report::TEXT_ROOM;
+use log_reader::Reader;
+use log_reader::Told;
+use play_text::BUFFER;
+use play_text::Ending;
+use play_text::Shown;
+use play_text::TEXT_ROOM;
 ghost use Prim.Native.Nat.{ℕ, _≤_};
 ghost use mathlib.Core.List.{List};
 ghost use mathlib.Core.Path.{_≡_};
 ghost use lib.ListN.{length};
-ghost use Rattle.pieces.specs.Listed.{room};
-ghost use Rattle.pieces.specs.Views.{reader-of};
-ghost use Rattle.report.specs.Played.{buffer, text-room, played};
-ghost use Rattle.report.specs.HoweverPlayed.{Reached};
+ghost use Rattle.log_reader.specs.Listed.{room};
+ghost use Rattle.log_reader.specs.Views.{reader-of};
+ghost use Rattle.play_text.specs.Played.{buffer, text-room, played};
+ghost use Rattle.play_text.specs.HoweverPlayed.{Reached};
 ghost use Rattle.play.specs.Turns.{Has-text, Has-end, Turns, Leaves};
 
 // What is left to do after a piece.
@@ -79,7 +79,7 @@ fn play_piece(reader: Reader, list: &mut [u32], piece: &[u8], out: &mut [u8]) ->
     requires { ⌜ text-room ≤ length (now out) ⌝ }
     ensures { λ r. ⌜ Turns (now (list .exit)) (played (reader-of (now (list .entry)) reader) (now (piece .entry)) .reader) r ⌝ }
 {
-    let shown = report::show_piece(reader, list, piece, out);
+    let shown = play_text::show_piece(reader, list, piece, out);
     print_text(shown, out)
 }
 
@@ -110,7 +110,7 @@ fn finish(reader: Reader, list: &[u32], out: &mut [u8])
     requires { ⌜ room ≤ length (now list) ⌝ }
     requires { ⌜ text-room ≤ length (now out) ⌝ }
 {
-    let ending = report::show_end(reader, list, out);
+    let ending = play_text::show_end(reader, list, out);
     print_end(ending, out);
 }
 
@@ -120,7 +120,7 @@ fn play_log(log: &mut [u8], list: &mut [u32], out: &mut [u8])
     requires { ⌜ room ≡ length (now list) ⌝ }
     requires { ⌜ text-room ≡ length (now out) ⌝ }
 {
-    let mut reader = pieces::fresh();
+    let mut reader = log_reader::fresh();
     loop {
         match input::read_piece(log) {
             Piece::Bytes(n) => match play_piece(reader, list, &log[..n], out) {
@@ -145,7 +145,7 @@ fn play_log(log: &mut [u8], list: &mut [u32], out: &mut [u8])
 
 fn run() {
     let mut log = log_buffer();
-    let mut list = pieces::pair_buffer();
+    let mut list = log_reader::pair_buffer();
     let mut out = text_buffer();
     play_log(&mut log, &mut list, &mut out);
 }

@@ -7,34 +7,13 @@ use native.Mathlib.Omega.{arith}
 use lib.Dec.{eqb}
 use lib.ListN.{length, getD, drop, length-append, List·getD-eq-default}
 use borrow.Author.Tests.{eq-eqb, ne-eqb}
-use Rattle.rules.specs.ZeroDelay.{mark-word, sign-unless-0, character, sign-of, backspace, send, take-back, sent}
+use Rattle.rules.specs.ZeroDelay.{sign-unless-0, backspace, send, take-back, sent}
 use Rattle.rules.specs.Sequences.{signs-among}
-use Rattle.rules.specs.declared.Thumb.{Thumb}
-use Rattle.rules.specs.declared.Thumb.the-variants.{Left, Right}
-use Rattle.rules.specs.declared.Item.{Item}
-use Rattle.rules.specs.declared.Item.the-variants.{Character, Mark, Together}
-use Rattle.rules.proofs.Choices.{both-ways, by-test}
-use Rattle.layout.specs.Column.{rows}
-use Rattle.layout.proofs.Table.{in-rows}
-use Rattle.preview.specs.Views.{word-in, shown-list, sign-list, packed, Holds, put-before, behind-first, backspaces-among, Sends}
+use Rattle.choice.proofs.Choices.{both-ways, by-test}
+use Rattle.preview.specs.Views.{shown-list, sign-list, packed, Holds, put-before, behind-first, backspaces-among, Sends}
 use Rattle.preview.specs.declared.Signs.{Signs}
 use Rattle.preview.specs.declared.Shown.{Shown}
 use Rattle.preview.specs.declared.Sendings.{Sendings}
-
--- a mark is no empty face
-pub mark-sign : (O : Thumb) → sign-unless-0 (mark-word O) ≡ mark-word O ∷ []
-mark-sign Left = refl
-mark-sign Right = refl
-
--- an item's word by document 01's rows is its sign
-pub by-rows : (i : Item) → sign-unless-0 (word-in rows i) ≡ sign-of i
-unfolding character
-by-rows (Character k f) = ap sign-unless-0 (in-rows k f)
-by-rows (Mark O) = mark-sign O
-by-rows (Together M K c) = refl
-
-pub word-sign : (i : Item) (w : ℕ) (table : List (List ℕ)) → table ≡ rows → w ≡ word-in table i → sign-unless-0 w ≡ sign-of i
-word-sign i w table e f = rw (f, e) (by-rows i)
 
 -- a word is one sign at most
 one-sign : (x : ℕ) → length (sign-unless-0 x) ≤ 1

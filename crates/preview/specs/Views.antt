@@ -1,32 +1,15 @@
--- What the answers of this crate say: the items of a step, the signs, and what is sent, as lists.
+-- What the answers of this crate say: the signs, and what is sent, as lists.
 use Prim.Native.Nat.{ℕ, suc}
 use mathlib.Core.List.{List, [], _∷_, _++_}
 use mathlib.Core.Path.{_≡_}
 use lib.Dec.{eqb}
 use lib.ListN.{getD, replicate}
-use Rattle.rules.specs.Choice.{if_then_else_}
-use Rattle.rules.specs.ZeroDelay.{sign-unless-0, mark-word, Sending, backspace, sign, send}
+use Rattle.choice.specs.Choice.{if_then_else_}
+use Rattle.rules.specs.ZeroDelay.{sign-unless-0, Sending, backspace, sign, send}
 use Rattle.rules.specs.Sequences.{signs-among}
-use Rattle.rules.specs.declared.Item.{Item}
-use Rattle.rules.specs.declared.Item.the-variants.{Character, Mark, Together}
-use Rattle.layout.specs.Column.{code-point-in}
-use Rattle.preview.specs.declared.Items.{Items}
-use Rattle.preview.specs.declared.Items.the-variants.{None, One, Two}
 use Rattle.preview.specs.declared.Signs.{Signs}
 use Rattle.preview.specs.declared.Sendings.{Sendings}
 use Rattle.preview.specs.declared.Shown.{Shown}
-
-abbrev pub listed : Items → List Item
-listed None = []
-listed (One i) = i ∷ []
-listed (Two i j) = i ∷ j ∷ []
-
--- an item's word by some rows of faces: a character's code point, 0 for an empty face; 1 for the left mark, 2 for the right one; a
--- pair's own character
-abbrev pub word-in : List (List ℕ) → Item → ℕ
-word-in rs (Character k f) = code-point-in rs k f
-word-in rs (Mark O) = mark-word O
-word-in rs (Together M K c) = c
 
 -- a word 0 is no sign
 abbrev pub shown-list : Shown → List ℕ

@@ -1,21 +1,15 @@
 // Zero delay: what a step sends, from what was shown before it, what it commits and what is shown after it.
+use layout::word;
 use rules::Face;
-use rules::Item;
+use rules::Items;
 use rules::Key;
 use rules::Resting;
-use rules::Thumb;
 ghost use mathlib.Core.Path.{_≡_};
 ghost use mathlib.Core.List.{_++_};
-ghost use Rattle.rules.specs.ZeroDelay.{sign-unless-0, mark-word, character, sign-of, signs, shown, sent};
+ghost use Rattle.rules.specs.ZeroDelay.{sign-unless-0, character, signs, shown, sent};
+ghost use Rattle.rules.specs.Items.{listed};
 ghost use Rattle.rules.specs.declared.Face.the-variants.{Plain};
-ghost use Rattle.preview.specs.Views.{listed, word-in, shown-list, put-before, behind-first, sign-list, packed, Holds, Sends};
-
-// The items that a step commits, in order.
-pub enum Items {
-    None,
-    One(Item),
-    Two(Item, Item),
-}
+ghost use Rattle.preview.specs.Views.{shown-list, put-before, behind-first, sign-list, packed, Holds, Sends};
 
 // Up to four signs as words, in order: a character's code point, 1 for the left mark, 2 for the right one. They are packed to
 // the front, 0 behind the last.
@@ -36,34 +30,6 @@ pub struct Sendings {
 struct Shown {
     first: u16,
     second: u16,
-}
-
-fn mark_word(thumb: Thumb) -> u16
-    ensures { λ r. ⌜ r ≡ mark-word thumb ⌝ }
-{
-    match thumb {
-        Thumb::Left => 1,
-        Thumb::Right => 2,
-    }
-}
-
-// The sign of an item by a lent table of faces, 0 for an empty face.
-pub fn word_in(table: &[[u16; 3]; 31], item: Item) -> u16
-    ensures { λ r. ⌜ r ≡ word-in (now (table .entry)) item ⌝ }
-{
-    match item {
-        Item::Character(key, face) => layout::code_point_in(table, key, face),
-        Item::Mark(thumb) => mark_word(thumb),
-        Item::Together(_, _, c) => c,
-    }
-}
-
-// The sign of an item by the layout.
-pub fn word(item: Item) -> u16
-    ensures { λ r. ⌜ sign-unless-0 r ≡ sign-of item ⌝ }
-{
-    let table = layout::faces();
-    word_in(&table, item)
 }
 
 // One character is shown, by its key and face.

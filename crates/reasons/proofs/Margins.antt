@@ -8,7 +8,7 @@ use mathlib.Core.Option.{Option, none, some, Option·none-ne-some, Option·some-
 use mathlib.Core.Path.{_≡_, refl, sym, ap, subst, _∙_}
 use lib.Dec.{leb}
 use borrow.Author.Tests.{leb-true, leb-false, le-leb, lt-leb}
-use Rattle.rules.specs.Choice.{if_then_else_}
+use Rattle.choice.specs.Choice.{if_then_else_}
 use Rattle.rules.specs.States.{at, lag, later, at-or-before}
 use Rattle.rules.specs.Pairs.{Lent}
 use Rattle.rules.specs.OneEvent.{Done}
@@ -16,7 +16,7 @@ use Rattle.rules.specs.declared.Stamp.{Stamp}
 use Rattle.rules.specs.declared.Settings.{Settings}
 use Rattle.rules.specs.declared.Resting.{Resting}
 use Rattle.rules.specs.declared.Input.{Input}
-use Rattle.rules.proofs.Choices.{by-test}
+use Rattle.choice.proofs.Choices.{by-test}
 use Rattle.reasons.specs.Turning.{decided, since, turnings, passed, next-turn, or-else, last-turn}
 use Rattle.reasons.specs.Reason.{sooner-at, Otherwise, otherwise, if-later, if-sooner}
 use Rattle.reasons.specs.ReasonFacts.{sooner, Ordered, Turns, True-margins}

@@ -15,7 +15,7 @@ use Rattle.rules.specs.declared.Resting.{Resting}
 use Rattle.rules.specs.declared.Resting.the-variants.{S1, S2, S3, S4, S5, S6, S7, S8}
 use Rattle.rules.specs.declared.Input.{Input}
 use Rattle.rules.specs.declared.Input.the-variants.{CharacterDown, CharacterUp, ThumbDown, ThumbUp, FunctionDown, Tick}
-use Rattle.rules.proofs.Choices.{either}
+use Rattle.choice.proofs.Choices.{either}
 use Rattle.reasons.specs.Turning.{decision}
 use Rattle.reasons.specs.Reason.{comes-out, compared}
 use Rattle.reasons.specs.ReasonFacts.{True-test}

@@ -10,7 +10,7 @@ use mathlib.Core.Option.{none, some}
 use mathlib.Core.Path.{_≡_, refl, ap, _∙_}
 use lib.Dec.{ltb, leb, eqb}
 use borrow.Author.Tests.{le-leb, lt-leb, leb-true, leb-false, ltb-true, ltb-false}
-use Rattle.rules.specs.Choice.{if_then_else_}
+use Rattle.choice.specs.Choice.{if_then_else_}
 use Rattle.rules.specs.Numbers.{short-overlap-time, B}
 use Rattle.rules.specs.Pairs.{Lent, is-pair, same-key, GN}
 use Rattle.rules.specs.States.{at, lag, later, deadline}
@@ -23,7 +23,7 @@ use Rattle.rules.specs.declared.Resting.{Resting}
 use Rattle.rules.specs.declared.Resting.the-variants.{S1, S2, S3, S4, S5, S6, S7, S8}
 use Rattle.rules.specs.declared.Input.{Input}
 use Rattle.rules.specs.declared.Input.the-variants.{CharacterDown, CharacterUp, ThumbDown, ThumbUp, FunctionDown, Tick}
-use Rattle.rules.proofs.Choices.{by-test, either}
+use Rattle.choice.proofs.Choices.{by-test, either}
 use Rattle.rules.proofs.Late.{late-and-event}
 use Rattle.rules.proofs.Tests.{InRange, range-bounds, Good, good-bounds}
 use Rattle.reasons.specs.Turning.{unstamped, decision, decided, since, turnings, turns-in, at-and-late, parts-before}

@@ -14,7 +14,7 @@ use Rattle.rules.specs.Distance.{not-answered, asking}
 use Rattle.rules.specs.declared.Stamp.{Stamp}
 use Rattle.rules.specs.declared.Machine.{Machine}
 use Rattle.rules.specs.declared.Event.{Event}
-use Rattle.rules.proofs.Choices.{both-ways, by-test}
+use Rattle.choice.proofs.Choices.{both-ways, by-test}
 use Rattle.row.specs.Row.{most-keyboards, keyboard, refused-13, answered-at, step-at, asking-at}
 use Rattle.row.specs.RowFacts.{NoKeyboard, Found}
 

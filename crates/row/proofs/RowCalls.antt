@@ -7,7 +7,7 @@ use mathlib.Core.Option.{some}
 use mathlib.Core.Path.{_≡_, refl, sym, ap, subst, _∙_}
 use lib.Dec.{eqb}
 use lib.ListN.{getElem?}
-use Rattle.rules.specs.Choice.{if_then_else_}
+use Rattle.choice.specs.Choice.{if_then_else_}
 use Rattle.rules.specs.Pairs.{Lent}
 use Rattle.rules.specs.States.{later, fresh, opening, opened}
 use Rattle.rules.specs.GivenBack.{Answer, step}
@@ -23,9 +23,10 @@ use Rattle.rules.specs.declared.Item.{Item}
 use Rattle.rules.specs.declared.Event.{Event}
 use Rattle.rules.proofs.LastAccepted.{last-accepted}
 use Rattle.rules.proofs.MovedClock.{clock-moved}
-use Rattle.preview.specs.Views.{listed, packed-sendings}
-use Rattle.preview.specs.declared.Items.{Items}
-use Rattle.preview.specs.declared.Items.the-variants.{None, One, Two}
+use Rattle.rules.specs.Items.{listed}
+use Rattle.preview.specs.Views.{packed-sendings}
+use Rattle.rules.specs.declared.Items.{Items}
+use Rattle.rules.specs.declared.Items.the-variants.{None, One, Two}
 use Rattle.engine.specs.Views.{Gives}
 use Rattle.engine.specs.Calls.{Calls, last-machine, OfTheCode}
 use Rattle.engine.specs.Calls as one

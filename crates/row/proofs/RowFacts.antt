@@ -17,7 +17,7 @@ use Rattle.rules.specs.declared.Stamp.{Stamp}
 use Rattle.rules.specs.declared.Machine.{Machine}
 use Rattle.rules.specs.declared.Event.{Event}
 use Rattle.rules.specs.declared.Input.{Input}
-use Rattle.rules.proofs.Choices.{both-ways}
+use Rattle.choice.proofs.Choices.{both-ways}
 use Rattle.rules.proofs.Refusals.{refusals}
 use Rattle.rules.proofs.DistanceFacts.{same-refusals, distance-facts}
 use Rattle.row.specs.Row.{keyboard, RowAnswer, refused-13, answered-at, step-at, asking-at}

@@ -18,7 +18,8 @@ use Rattle.rules.specs.Distance.{asking-with, asking}
 use Rattle.rules.specs.Examples.{usual, with-solo}
 use Rattle.rules.specs.declared.Machine.{Machine}
 use Rattle.rules.proofs.Tried.{all-stay}
-use Rattle.preview.specs.Views.{listed, sending-list, packed-sendings}
+use Rattle.rules.specs.Items.{listed}
+use Rattle.preview.specs.Views.{sending-list, packed-sendings}
 use Rattle.row.specs.Row.{keyboard, RowAnswer, step-at, asking-at}
 use Rattle.row.specs.Views.{TellsAt}
 use Rattle.row.specs.RowFacts.{Found}

@@ -5,7 +5,7 @@ use mathlib.Core.List.{List, []}
 use mathlib.Core.Option.{Option, none, some}
 use lib.Dec.{leb}
 use lib.ListN.{length, getElem?, set}
-use Rattle.rules.specs.Choice.{if_then_else_}
+use Rattle.choice.specs.Choice.{if_then_else_}
 use Rattle.rules.specs.Pairs.{Lent}
 use Rattle.rules.specs.ZeroDelay.{Sending}
 use Rattle.rules.specs.GivenBack.{Answer, step}

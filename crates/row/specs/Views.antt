@@ -8,7 +8,8 @@ use Rattle.rules.specs.ZeroDelay.{Sending}
 use Rattle.rules.specs.GivenBack.{Answer}
 use Rattle.rules.specs.Distance.{Asking, not-answered}
 use Rattle.rules.specs.declared.Item.{Item}
-use Rattle.preview.specs.Views.{listed, sending-list, packed-sendings}
+use Rattle.rules.specs.Items.{listed}
+use Rattle.preview.specs.Views.{sending-list, packed-sendings}
 use Rattle.deadlines.specs.Views.{asked}
 use Rattle.row.specs.Row.{most-keyboards, RowAnswer}
 use Rattle.row.specs.declared.Told.{Told}

@@ -10,7 +10,7 @@ use Rattle.rules.specs.Numbers.{in-range, up, A, B, FJ, FL, D, X, W}
 use Rattle.rules.specs.Pairs.{Pair, Lent, pair-of, is-pair, in-some-pair, lent-good, GN, P, alone, X-pairs, W-pairs, if-any, longest}
 use Rattle.rules.specs.declared.Key.{Key}
 use Rattle.rules.specs.declared.Settings.{Settings}
-use Rattle.rules.proofs.Choices.{both-ways}
+use Rattle.choice.proofs.Choices.{both-ways}
 use Rattle.rules.proofs.Tests.{InRange, range-bounds, Good, good-bounds}
 
 up-positive : (n d : ℕ) → 0 < d → 0 < n → 1 ≤ up n d

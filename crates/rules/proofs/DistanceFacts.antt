@@ -14,7 +14,7 @@ use Rattle.rules.specs.Pairs.{Lent, lent-good}
 use Rattle.rules.specs.States.{later, deadline, well-formed}
 use Rattle.rules.specs.OneEvent.{_leaving_, nothing, mark, late, due-by, settle}
 use Rattle.rules.specs.ZeroDelay.{shown, sent}
-use Rattle.rules.specs.Choice.{if_then_else_}
+use Rattle.choice.specs.Choice.{if_then_else_}
 use Rattle.rules.specs.GivenBack.{input, is-new, refused, accepted, judge, Answer, refusal, acceptance, answer, step-with, step}
 use Rattle.rules.specs.Demand3.{tick}
 use Rattle.rules.specs.Distance.{distance, distance-to, Asking, not-answered, asking-with, asking}
@@ -28,7 +28,7 @@ use Rattle.rules.specs.declared.Face.the-variants.{Plain}
 use Rattle.rules.specs.declared.Item.{Item}
 use Rattle.rules.specs.declared.Item.the-variants.{Character}
 use Rattle.rules.specs.declared.Input.the-variants.{Tick}
-use Rattle.rules.proofs.Choices.{both-ways, by-test, either}
+use Rattle.choice.proofs.Choices.{both-ways, by-test, either}
 use Rattle.rules.proofs.Signed.{pos-injective, difference}
 use Rattle.rules.proofs.Steps.{step-accepted}
 use Rattle.rules.proofs.Ticks.{settle-due, settle-not-due, one-tick}

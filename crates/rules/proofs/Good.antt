@@ -12,7 +12,7 @@ use Rattle.rules.specs.OneEvent.{same-key}
 use Rattle.rules.specs.Pairs.{Pair, Lent, pairs-most, T-s-least, T-s-most, N-least, N-most, names, is-of, pair-of, is-pair, none-twice, is-pair-character, pair-good, each-good, lent-good}
 use Rattle.rules.specs.PairFacts.{PairAsked, SameTwo, LentAsked, GoodExactly}
 use Rattle.rules.specs.declared.Key.{Key}
-use Rattle.rules.proofs.Choices.{either}
+use Rattle.choice.proofs.Choices.{either}
 use Rattle.rules.proofs.Tests.{within-bounds, good-bounds}
 use Rattle.rules.proofs.Pairs.{named, as-named, as-turned, found, one-of}
 

@@ -10,13 +10,13 @@ use lib.Count.{onesIn, ones, ones-step}
 use lib.Dec.{ltb, leb, eqb}
 use lib.ListN.{length, length-append}
 use borrow.Author.Tests.{ltb-true, ltb-false, lt-ltb, le-ltb, leb-true, le-leb, eqb-true, eqb-false, eq-eqb}
-use Rattle.rules.specs.Choice.{if_then_else_}
+use Rattle.choice.specs.Choice.{if_then_else_}
 use Rattle.rules.specs.Numbers.{keys, most-held}
 use Rattle.rules.specs.Held.{bit, is-held, held-below, held-keys, hold, release, how-many, held-formed}
 use Rattle.rules.specs.HeldFacts.{HeldFacts, CountsKeys, SameKeys, FormedExactly}
 use Rattle.rules.specs.OneEvent.{same-key}
 use Rattle.rules.specs.declared.Key.{Key}
-use Rattle.rules.proofs.Choices.{both-ways, by-test, either}
+use Rattle.choice.proofs.Choices.{both-ways, by-test, either}
 
 -- Bits: bit 0, and every other one as a bit of the half.
 

@@ -23,7 +23,7 @@ use Rattle.rules.specs.declared.Machine.{Machine}
 use Rattle.rules.specs.declared.Event.{Event}
 use Rattle.rules.specs.declared.Input.{Input}
 use Rattle.rules.specs.declared.Input.the-variants.{ThumbDown, ThumbUp}
-use Rattle.rules.proofs.Choices.{both-ways, two-ways}
+use Rattle.choice.proofs.Choices.{both-ways, two-ways}
 use Rattle.rules.proofs.Held.{held-key, none-held, formed-test, formed-exactly}
 use Rattle.rules.proofs.Steps.{taken, step-cases}
 use Rattle.rules.proofs.StillHeld.{still-held}

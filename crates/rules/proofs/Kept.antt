@@ -23,7 +23,7 @@ use Rattle.rules.specs.declared.Item.{Item}
 use Rattle.rules.specs.declared.Item.the-variants.{Character, Mark, Together}
 use Rattle.rules.specs.declared.Input.{Input}
 use Rattle.rules.specs.declared.Input.the-variants.{CharacterDown, CharacterUp, ThumbDown, ThumbUp, FunctionDown, Tick}
-use Rattle.rules.proofs.Choices.{both-ways, by-test}
+use Rattle.choice.proofs.Choices.{both-ways, by-test}
 use Rattle.rules.proofs.Steps.{pressed, KeyBelow}
 use Rattle.rules.proofs.Late.{settle-once}
 use Rattle.rules.proofs.Bounds.{Limits, Bounds}

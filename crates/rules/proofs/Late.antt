@@ -6,7 +6,7 @@ use mathlib.Core.Bool.{false, true≢false}
 use mathlib.Core.List.{[], append-nil}
 use mathlib.Core.Path.{_≡_, refl}
 use lib.ListN.{length}
-use Rattle.rules.specs.Choice.{if_then_else_}
+use Rattle.choice.specs.Choice.{if_then_else_}
 use Rattle.rules.specs.Pairs.{Lent}
 use Rattle.rules.specs.States.{deadline}
 use Rattle.rules.specs.OneEvent.{Done, _leaving_, nothing, late, act, due-by, and-then, settle-in, settle}
@@ -19,7 +19,7 @@ use Rattle.rules.specs.declared.Resting.{Resting}
 use Rattle.rules.specs.declared.Resting.the-variants.{S1, S2, S3, S4, S5, S6, S7, S8}
 use Rattle.rules.specs.declared.Input.{Input}
 use Rattle.rules.specs.declared.Input.the-variants.{CharacterDown, CharacterUp, ThumbDown, ThumbUp, FunctionDown, Tick}
-use Rattle.rules.proofs.Choices.{by-test}
+use Rattle.choice.proofs.Choices.{by-test}
 
 pub late-leaves-S1 : (g : Lent) (s : Settings) (y : Resting) → late g s y .resting ≡ S1
 late-leaves-S1 g s S1 = refl

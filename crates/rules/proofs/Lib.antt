@@ -1,4 +1,3 @@
-pub mod Choices
 pub mod Held
 pub mod Tests
 pub mod LayoutFacts

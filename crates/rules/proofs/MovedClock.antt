@@ -8,7 +8,7 @@ use mathlib.Core.Path.{_≡_, refl, sym, _∙_, ap, ap₂}
 use lib.Dec.{ltb, leb, eqb}
 use lib.ListN.{length}
 use borrow.Author.Tests.{ltb-true, ltb-false, lt-ltb, le-ltb, leb-true, leb-false, le-leb, lt-leb}
-use Rattle.rules.specs.Choice.{if_then_else_}
+use Rattle.choice.specs.Choice.{if_then_else_}
 use Rattle.rules.specs.Numbers.{largest-stamp, B, FJ}
 use Rattle.rules.specs.Pairs.{Lent, is-pair, lent-good, GN, alone}
 use Rattle.rules.specs.States.{at, lag, later, deadline, fresh, keys-below, stamps-by, in-order, pair-lent, well-formed}
@@ -28,7 +28,7 @@ use Rattle.rules.specs.declared.Machine.{Machine}
 use Rattle.rules.specs.declared.Event.{Event}
 use Rattle.rules.specs.declared.Input.{Input}
 use Rattle.rules.specs.declared.Input.the-variants.{CharacterDown, CharacterUp, ThumbDown, ThumbUp, FunctionDown, Tick}
-use Rattle.rules.proofs.Choices.{two-ways, either}
+use Rattle.choice.proofs.Choices.{two-ways, either}
 use Rattle.rules.proofs.Signed.{difference}
 use Rattle.rules.proofs.Steps.{judge-cases}
 

@@ -10,7 +10,7 @@ use Rattle.rules.specs.OneEvent.{same-key}
 use Rattle.rules.specs.Pairs.{Pair, T-s-least, T-s-most, N-least, N-most, names, is-of, pair-of, is-some, is-pair, in-some-pair, none-twice, is-pair-character, pair-good, each-good, lent-good}
 use Rattle.rules.specs.PairFacts.{turned, Partner, PairFacts, NoPairsGood, TrialsHold}
 use Rattle.rules.specs.declared.Key.{Key}
-use Rattle.rules.proofs.Choices.{either}
+use Rattle.choice.proofs.Choices.{either}
 
 or-swap : (s t : Bool) → (s || t) ≡ (t || s)
 or-swap true true = refl

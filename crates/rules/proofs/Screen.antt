@@ -15,7 +15,7 @@ use Rattle.rules.specs.Demand3.{Begins}
 use Rattle.rules.specs.declared.Machine.{Machine}
 use Rattle.rules.specs.declared.Item.{Item}
 use Rattle.rules.specs.declared.Event.{Event}
-use Rattle.rules.proofs.Choices.{by-test}
+use Rattle.choice.proofs.Choices.{by-test}
 use Rattle.rules.proofs.Steps.{step-cases}
 
 -- The last sign.

@@ -30,7 +30,7 @@ use Rattle.rules.specs.declared.Item.the-variants.{Character, Mark, Toge
 use Rattle.rules.specs.declared.Event.{Event}
 use Rattle.rules.specs.declared.Input.{Input}
 use Rattle.rules.specs.declared.Input.the-variants.{CharacterDown, CharacterUp, ThumbDown, ThumbUp, FunctionDown, Tick}
-use Rattle.rules.proofs.Choices.{both-ways, by-test}
+use Rattle.choice.proofs.Choices.{both-ways, by-test}
 use Rattle.rules.proofs.Steps.{step-cases}
 use Rattle.rules.proofs.Late.{S1-leaves-one, late-and-event, settle-once}
 

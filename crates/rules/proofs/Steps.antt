@@ -6,7 +6,7 @@ use mathlib.Core.Option.{Option, none, some}
 use mathlib.Core.Path.{_≡_, refl, sym, _∙_, ap, subst}
 use lib.Dec.{eqb, ltb}
 use borrow.Author.Tests.{ltb-true, ltb-false, le-ltb, eqb-true, eqb-false}
-use Rattle.rules.specs.Choice.{if_then_else_}
+use Rattle.choice.specs.Choice.{if_then_else_}
 use Rattle.rules.specs.Numbers.{keys, largest-stamp, most-held, within, in-range}
 use Rattle.rules.specs.Held.{is-held, hold, release, how-many, held-formed}
 use Rattle.rules.specs.Pairs.{Lent, lent-good}
@@ -22,7 +22,7 @@ use Rattle.rules.specs.declared.Machine.{Machine}
 use Rattle.rules.specs.declared.Event.{Event}
 use Rattle.rules.specs.declared.Input.{Input}
 use Rattle.rules.specs.declared.Input.the-variants.{CharacterDown, CharacterUp, ThumbDown, ThumbUp, FunctionDown, Tick}
-use Rattle.rules.proofs.Choices.{both-ways, by-test, either}
+use Rattle.choice.proofs.Choices.{both-ways, by-test, either}
 use Rattle.rules.proofs.Held.{held-facts, held-by-hold, held-by-release, FormedSet, set-formed, formed-hold, formed-release}
 
 -- the press that an input is

@@ -22,7 +22,7 @@ use Rattle.rules.specs.declared.Resting.{Resting}
 use Rattle.rules.specs.declared.Resting.the-variants.{S1, S2, S3, S4, S5, S6, S7, S8}
 use Rattle.rules.specs.declared.Input.{Input}
 use Rattle.rules.specs.declared.Input.the-variants.{CharacterDown, CharacterUp, ThumbDown, ThumbUp, FunctionDown, Tick}
-use Rattle.rules.proofs.Choices.{both-ways, by-test, either}
+use Rattle.choice.proofs.Choices.{both-ways, by-test, either}
 use Rattle.rules.proofs.Held.{held-key, held-facts}
 use Rattle.rules.proofs.Tests.{good-bounds}
 use Rattle.rules.proofs.Pairs.{pair-facts}

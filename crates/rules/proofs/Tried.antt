@@ -9,7 +9,7 @@ use lib.Count.{onesIn}
 use lib.Dec.{ltb, leb, lit≤}
 use lib.ListN.{length}
 use borrow.Author.Tests.{leb-true, le-ltb}
-use Rattle.rules.specs.Choice.{if_then_else_}
+use Rattle.choice.specs.Choice.{if_then_else_}
 use Rattle.rules.specs.Numbers.{largest-stamp, in-range, up, A, B, FJ, FL, D, X, W}
 use Rattle.rules.specs.Pairs.{pair-of, in-some-pair, none-twice, each-good, lent-good, no-pairs, alone, longest}
 use Rattle.rules.specs.Layout.{table, code-point}

@@ -5,7 +5,7 @@ use mathlib.Core.Logic.{_≢_}
 use mathlib.Core.Option.{Option, none, some}
 use mathlib.Core.Path.{_≡_}
 use lib.IntN.{ℤ, pos, negsuc, _-ℤ_}
-use Rattle.rules.specs.Choice.{if_then_else_}
+use Rattle.choice.specs.Choice.{if_then_else_}
 use Rattle.rules.specs.Numbers.{largest-stamp}
 use Rattle.rules.specs.Pairs.{Lent}
 use Rattle.rules.specs.States.{later, deadline}

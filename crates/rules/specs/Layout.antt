@@ -5,7 +5,7 @@ use Prim.Native.String.{String, [] as end-of-text, _∷_ as _followed-by_}
 use mathlib.Core.List.{List, [], _∷_, _++_}
 use lib.Dec.{eqb}
 use lib.ListN.{getD}
-use Rattle.rules.specs.Choice.{if_then_else_}
+use Rattle.choice.specs.Choice.{if_then_else_}
 use Rattle.rules.specs.declared.Key.{Key}
 use Rattle.rules.specs.declared.Thumb.the-variants.{Left, Right}
 use Rattle.rules.specs.declared.Face.{Face}

@@ -6,7 +6,7 @@ use mathlib.Core.Logic.{_≢_}
 use mathlib.Core.Path.{_≡_}
 use lib.Dec.{eqb}
 use lib.ListN.{length}
-use Rattle.rules.specs.Choice.{if_then_else_}
+use Rattle.choice.specs.Choice.{if_then_else_}
 use Rattle.rules.specs.Numbers.{keys}
 use Rattle.rules.specs.Layout.{Row, table, face-of, code-point}
 use Rattle.rules.specs.declared.Key.{Key}

@@ -1,4 +1,3 @@
-pub mod Choice
 pub mod Numbers
 pub mod Layout
 pub mod LayoutFacts
@@ -7,6 +6,7 @@ pub mod HeldFacts
 pub mod Pairs
 pub mod PairFacts
 pub mod States
+pub mod Items
 pub mod OneEvent
 pub mod ZeroDelay
 pub mod GivenBack

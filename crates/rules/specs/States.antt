@@ -5,7 +5,7 @@ use Prim.Native.Nat.{ℕ, _+_, _-_, min}
 use mathlib.Core.Bool.{Bool, true, _&&_}
 use mathlib.Core.Option.{Option, none, some}
 use lib.Dec.{ltb, leb, eqb}
-use Rattle.rules.specs.Choice.{if_then_else_}
+use Rattle.choice.specs.Choice.{if_then_else_}
 use Rattle.rules.specs.Numbers.{keys, largest-stamp, in-range, B, FJ, FL}
 use Rattle.rules.specs.Pairs.{Lent, is-pair, GN, alone}
 use Rattle.rules.specs.Held.{held-formed}

@@ -8,7 +8,7 @@ use mathlib.Core.List.{List, [], _∷_, _++_}
 use mathlib.Core.Logic.{_≢_}
 use mathlib.Core.Path.{_≡_}
 use lib.ListN.{length, replicate}
-use Rattle.rules.specs.Choice.{if_then_else_}
+use Rattle.choice.specs.Choice.{if_then_else_}
 use Rattle.rules.specs.Pairs.{Lent}
 use Rattle.rules.specs.States.{deadline, well-formed}
 use Rattle.rules.specs.OneEvent.{_leaving_, nothing, late, act, due-by, settle-in, settle}

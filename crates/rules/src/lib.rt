@@ -70,6 +70,13 @@ pub enum Item {
     Together(Key, Key, u16),
 }
 
+// The items that a step commits, in order.
+pub enum Items {
+    None,
+    One(Item),
+    Two(Item, Item),
+}
+
 // An event as it arrives: any kind, any key, any stamp.
 pub struct Event {
     pub kind: u8,

@@ -33,7 +33,7 @@ use waits::short_overlap;
 use waits::short_pair;
 ghost use mathlib.Core.Path.{_≡_};
 ghost use mathlib.Core.List.{_++_};
-ghost use Rattle.rules.specs.Choice.{if_then_else_};
+ghost use Rattle.choice.specs.Choice.{if_then_else_};
 ghost use Rattle.rules.specs.States.{lag};
 ghost use Rattle.rules.specs.OneEvent.{_leaving_, nothing, mark, plain, chord, together, second-thumb-takes-character, short-overlap};
 ghost use Rattle.rules.specs.OneEvent.{short-pair, short-of, late, in-S1, in-S2, in-S3, in-S4, in-S5, in-S6};

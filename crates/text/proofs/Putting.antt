@@ -7,8 +7,8 @@ use mathlib.Core.List.{List}
 use mathlib.Core.Path.{_≡_, refl, sym, _∙_}
 use lib.Dec.{leb}
 use lib.ListN.{length}
-use Rattle.rules.proofs.Choices.{either}
-use Rattle.runs.specs.Filled.{Stored}
+use Rattle.choice.proofs.Choices.{either}
+use Rattle.filled.specs.Filled.{Stored}
 use Rattle.text.specs.Puts.{Puts}
 
 -- the two answers of `has_room`

@@ -9,9 +9,9 @@ use mathlib.Core.List.{List, [], _∷_, _++_, append-assoc, append-nil}
 use lib.Dec.{ltb, leb, eqb}
 use lib.ListN.{length, take, drop, getD, length-append, take-append-drop}
 use lib.Seq.{take-suc, take-all}
-use Rattle.rules.proofs.Choices.{both-ways}
-use Rattle.runs.specs.Filled.{filled, Stored}
-use Rattle.runs.proofs.Filling.{filled-more, length-filled}
+use Rattle.choice.proofs.Choices.{both-ways}
+use Rattle.filled.specs.Filled.{filled, Stored}
+use Rattle.filled.proofs.Filling.{filled-more, length-filled}
 use Rattle.text.specs.Utf8.{utf8}
 use Rattle.text.specs.Text.{sign, text, Encodes}
 use Rattle.text.specs.declared.Encoded.the-variants.{Full, Bytes}

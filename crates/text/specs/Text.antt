@@ -8,8 +8,8 @@ use mathlib.Core.Option.{Option, none, some}
 use mathlib.Core.Path.{_≡_}
 use lib.Dec.{eqb, leb}
 use lib.ListN.{length}
-use Rattle.rules.specs.Choice.{if_then_else_}
-use Rattle.runs.specs.Filled.{filled}
+use Rattle.choice.specs.Choice.{if_then_else_}
+use Rattle.filled.specs.Filled.{filled}
 use Rattle.text.specs.Utf8.{utf8}
 use Rattle.text.specs.declared.Encoded.{Encoded}
 use Rattle.text.specs.declared.Encoded.the-variants.{Full, Bytes}

@@ -8,7 +8,7 @@ ghost use lib.ListN.{length};
 ghost use Rattle.text.specs.Utf8.{utf8};
 ghost use Rattle.text.specs.Text.{sign, text, Encodes};
 ghost use Rattle.text.specs.Puts.{Puts};
-ghost use Rattle.runs.specs.Filled.{Stored};
+ghost use Rattle.filled.specs.Filled.{Stored};
 
 pub enum Encoded {
     // The text does not fit, and nothing was written.

@@ -1,15 +1,15 @@
-// The whole face for a C host, as one library: libtrabeculon.a. Each function is that of `host`, `mended`, `keyboard` or `keyboards` under
+// The whole face for a C host, as one library: libtrabeculon.a. Each function is that of `host`, `keyboard` or `keyboard_row` under
 // the same name, with its contract.
-use flat::Flat;
+use machine_numbers::MachineNumbers;
 use host::Answer;
 use host::Drill;
-use host::FlatReader;
+use host::ReaderNumbers;
 use host::PieceRead;
 use keyboard::DistanceAnswer;
 use keyboard::OpenAnswer;
 use keyboard::StepAnswer;
-use keyboards::RowStepAnswer;
-use mended::MendAnswer;
+use keyboard_row::RowStepAnswer;
+use host::MendAnswer;
 use rules::Stamp;
 ghost use Prim.Native.Nat.{_/_};
 ghost use mathlib.Core.Path.{_≡_};
@@ -17,17 +17,17 @@ ghost use lib.ListN.{length};
 ghost use Rattle.rules.specs.Numbers.{settings-of};
 ghost use Rattle.rules.specs.States.{opening};
 ghost use Rattle.keylog.specs.Runs.{high-first, Reads};
-ghost use Rattle.inspected.specs.OfLog.{opined};
-ghost use Rattle.second.specs.Whole.{Gives};
+ghost use Rattle.log_opinions.specs.OfLog.{opined};
+ghost use Rattle.second_opinion.specs.Whole.{Gives};
 ghost use Rattle.writer.specs.Writes.{Writes};
 ghost use Rattle.host.specs.Face.{told};
 ghost use Rattle.host.specs.Drills.{drilled};
-ghost use Rattle.pieces.specs.Readers.{accepted};
+ghost use Rattle.log_reader.specs.Readers.{accepted};
 ghost use Rattle.host.specs.InPieces.{fresh-numbers, GivesPiece, GivesEnd};
 ghost use Rattle.keyboard.specs.Keyboard.{lent-of, event-of, open-numbers, step-numbers, distance-numbers};
 ghost use Rattle.mender.specs.Runs.{Mends};
-ghost use Rattle.mended.specs.Face as mended;
-ghost use Rattle.keyboards.specs.Keyboards.{row-numbers, row-step-numbers, row-distance-numbers};
+ghost use Rattle.host.specs.Mending.{mended};
+ghost use Rattle.keyboard_row.specs.Keyboards.{row-numbers, row-step-numbers, row-distance-numbers};
 
 #[no_mangle]
 pub extern "C" fn trabeculon_read_log(log: &[u8], out: &mut [u8]) -> Answer
@@ -58,7 +58,7 @@ pub extern "C" fn trabeculon_write_drill(
 }
 
 #[no_mangle]
-pub extern "C" fn trabeculon_reader_fresh() -> FlatReader
+pub extern "C" fn trabeculon_reader_fresh() -> ReaderNumbers
     ensures { λ r. ⌜ r ≡ fresh-numbers ⌝ }
 {
     host::trabeculon_reader_fresh()
@@ -66,7 +66,7 @@ pub extern "C" fn trabeculon_reader_fresh() -> FlatReader
 
 #[no_mangle]
 pub extern "C" fn trabeculon_reader_piece(
-    reader: FlatReader,
+    reader: ReaderNumbers,
     list: &mut [u32],
     piece: &[u8],
     out: &mut [u8],
@@ -77,7 +77,7 @@ pub extern "C" fn trabeculon_reader_piece(
 }
 
 #[no_mangle]
-pub extern "C" fn trabeculon_reader_end(reader: FlatReader, list: &[u32]) -> PieceRead
+pub extern "C" fn trabeculon_reader_end(reader: ReaderNumbers, list: &[u32]) -> PieceRead
     ensures { λ r. ⌜ GivesEnd reader (now (list .entry)) (accepted (now (list .entry)) reader) r ⌝ }
 {
     host::trabeculon_reader_end(reader, list)
@@ -92,7 +92,7 @@ pub extern "C" fn trabeculon_open(t: u16, j: u8, l: u8, solo: u8) -> OpenAnswer
 
 #[no_mangle]
 pub extern "C" fn trabeculon_step(
-    machine: Flat,
+    machine: MachineNumbers,
     pairs: &[u32],
     ts: u16,
     n: u8,
@@ -107,7 +107,7 @@ pub extern "C" fn trabeculon_step(
 
 #[no_mangle]
 pub extern "C" fn trabeculon_distance(
-    machine: Flat,
+    machine: MachineNumbers,
     pairs: &[u32],
     ts: u16,
     n: u8,
@@ -120,7 +120,7 @@ pub extern "C" fn trabeculon_distance(
 
 #[no_mangle]
 pub extern "C" fn trabeculon_row_step(
-    row: &mut [Flat],
+    row: &mut [MachineNumbers],
     pairs: &[u32],
     ts: u16,
     n: u8,
@@ -132,12 +132,12 @@ pub extern "C" fn trabeculon_row_step(
     ensures { λ r. ⌜ row-numbers r (now (row .exit))
         ≡ row-step-numbers (lent-of (now (pairs .entry)) ts n) (now (row .entry)) board (event-of kind key stamp) ⌝ }
 {
-    keyboards::trabeculon_row_step(row, pairs, ts, n, board, kind, key, stamp)
+    keyboard_row::trabeculon_row_step(row, pairs, ts, n, board, kind, key, stamp)
 }
 
 #[no_mangle]
 pub extern "C" fn trabeculon_row_distance(
-    row: &[Flat],
+    row: &[MachineNumbers],
     pairs: &[u32],
     ts: u16,
     n: u8,
@@ -146,12 +146,12 @@ pub extern "C" fn trabeculon_row_distance(
 ) -> DistanceAnswer
     ensures { λ r. ⌜ r ≡ row-distance-numbers (lent-of (now (pairs .entry)) ts n) (now (row .entry)) board stamp ⌝ }
 {
-    keyboards::trabeculon_row_distance(row, pairs, ts, n, board, stamp)
+    keyboard_row::trabeculon_row_distance(row, pairs, ts, n, board, stamp)
 }
 
 #[no_mangle]
 pub extern "C" fn trabeculon_mend(log: &[u8], out: &mut [u8], list: &mut [u64]) -> MendAnswer
-    ensures { λ r. ⌜ Mends (now (log .entry)) (now (out .entry)) (now (list .entry)) (mended.told r) (now (out .exit)) (now (list .exit)) ⌝ }
+    ensures { λ r. ⌜ Mends (now (log .entry)) (now (out .entry)) (now (list .entry)) (mended r) (now (out .exit)) (now (list .exit)) ⌝ }
 {
-    mended::trabeculon_mend(log, out, list)
+    host::trabeculon_mend(log, out, list)
 }

@@ -5,8 +5,8 @@ use mathlib.Core.List.{List}
 use mathlib.Core.Path.{_≡_, sym}
 use lib.Dec.{leb}
 use lib.ListN.{length}
-use Rattle.rules.specs.Choice.{if_then_else_}
-use Rattle.rules.proofs.Choices.{both-ways, by-test}
+use Rattle.choice.specs.Choice.{if_then_else_}
+use Rattle.choice.proofs.Choices.{both-ways, by-test}
 use Rattle.notation.specs.Transcribing.{Transcript, log, wrong, transcribed}
 use Rattle.transcriber.specs.Transcribes.{longest-text, answer, Transcribes}
 use Rattle.transcriber.specs.declared.Transcribed.{Transcribed}

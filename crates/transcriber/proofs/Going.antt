@@ -9,7 +9,7 @@ use mathlib.Core.Path.{_≡_, refl, sym, ap, _∙_}
 use lib.Dec.{eqb, ltb}
 use lib.ListN.{length, drop, getD, length-append, length-drop, List·getD-append, List·getD-eq-default}
 use lib.Seq.{drop-cons, drop-length, getD-at}
-use Rattle.rules.proofs.Choices.{by-test, either}
+use Rattle.choice.proofs.Choices.{by-test, either}
 use Rattle.writer.specs.Drills.{record-of}
 use Rattle.notation.specs.Transcribing as notation
 use Rattle.notation.specs.Transcribing.{line-end, longest-body, start, empty, step, Log, body-with, overlong, Transcript, log, wrong, taken}

@@ -3,7 +3,7 @@ use Prim.Native.Nat.{ℕ}
 use mathlib.Core.Bool.{Bool, false, not}
 use mathlib.Core.Path.{_≡_, sym, _∙_, subst}
 use lib.Dec.{eqb}
-use Rattle.rules.specs.Choice.{if_then_else_}
+use Rattle.choice.specs.Choice.{if_then_else_}
 use Rattle.notation.specs.Transcribing.{line-end, between, nothing, entry-step, step}
 use Rattle.notation.specs.declared.Progress.{Progress}
 use Rattle.notation.specs.declared.Step.{Step}

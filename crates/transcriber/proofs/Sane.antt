@@ -7,8 +7,8 @@ use mathlib.Core.List.{List, [], _∷_, _++_}
 use mathlib.Core.Path.{_≡_, refl, sym, ap, _∙_}
 use lib.Dec.{eqb, ltb, leb}
 use lib.ListN.{length, length-append}
-use Rattle.rules.specs.Choice.{if_then_else_}
-use Rattle.rules.proofs.Choices.{both-ways, by-test, either}
+use Rattle.choice.specs.Choice.{if_then_else_}
+use Rattle.choice.proofs.Choices.{both-ways, by-test, either}
 use Rattle.keylog.specs.Records.{bytes-of}
 use Rattle.keylog.proofs.Bytes.{length-bytes-of}
 use Rattle.writer.specs.Drills.{record-of}

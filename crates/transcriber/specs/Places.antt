@@ -2,7 +2,7 @@
 use Prim.Native.Nat.{ℕ, _+_}
 use mathlib.Core.List.{List, foldl}
 use lib.Dec.{eqb}
-use Rattle.rules.specs.Choice.{if_then_else_}
+use Rattle.choice.specs.Choice.{if_then_else_}
 use Rattle.notation.specs.Transcribing.{line-end}
 use Rattle.transcriber.specs.declared.places.Place.{Place}
 

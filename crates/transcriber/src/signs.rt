@@ -25,7 +25,7 @@ fn letter_value(b: u8) -> u8
 pub fn digit_value(letters: bool, b: u8) -> u8
     ensures { λ r. ⌜ r ≡ notation.digit-value letters b ⌝ }
 {
-    if numbers::digit(b) {
+    if decimals::digit(b) {
         return b - b'0';
     }
     if letters {

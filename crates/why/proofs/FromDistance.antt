@@ -6,7 +6,7 @@ use mathlib.Core.Bool.{Bool, true, false, _&&_, and-eq-true-iff}
 use mathlib.Core.Option.{Option, none, some}
 use mathlib.Core.Path.{_≡_, refl, ap, subst, _∙_}
 use lib.Dec.{eqb}
-use Rattle.rules.specs.Choice.{if_then_else_}
+use Rattle.choice.specs.Choice.{if_then_else_}
 use lib.IntN.{pos}
 use borrow.Author.Tests.{leb-true, le-leb, le-ltb}
 use Rattle.rules.specs.Numbers.{largest-stamp, in-range, B}
@@ -19,7 +19,7 @@ use Rattle.rules.specs.declared.Settings.{Settings}
 use Rattle.rules.specs.declared.Resting.{Resting}
 use Rattle.rules.specs.declared.Resting.the-variants.{S1, S2, S3, S4, S5, S6, S7, S8}
 use Rattle.rules.specs.declared.Machine.{Machine}
-use Rattle.rules.proofs.Choices.{both-ways}
+use Rattle.choice.proofs.Choices.{both-ways}
 use Rattle.rules.proofs.Signed.{difference}
 use Rattle.rules.proofs.Tests.{good-bounds}
 use Rattle.waits.specs.Capped.{largest-number, later-at-most}

@@ -2,7 +2,7 @@
 use mathlib.Core.List.{List, map}
 use mathlib.Core.Option.{Option}
 use mathlib.Core.Path.{_≡_, sym, ap, _∙_}
-use Rattle.rules.specs.Choice.{if_then_else_}
+use Rattle.choice.specs.Choice.{if_then_else_}
 use Rattle.rules.specs.States.{deadline}
 use Rattle.rules.specs.OneEvent.{due-by, one-event}
 use Rattle.rules.specs.GivenBack.{acts-as, step}

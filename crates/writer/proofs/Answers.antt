@@ -10,16 +10,16 @@ use mathlib.Core.Option.{Option, none, some}
 use mathlib.Core.Path.{_≡_, refl, sym, ap, _∙_}
 use lib.Dec.{leb, eqb}
 use lib.ListN.{length, length-append}
-use Rattle.rules.specs.Choice.{if_then_else_}
+use Rattle.choice.specs.Choice.{if_then_else_}
 use Rattle.rules.specs.Numbers.{in-range}
 use Rattle.rules.specs.declared.Settings.{Settings}
-use Rattle.runs.specs.Filled.{filled, Stored}
-use Rattle.runs.proofs.Filling.{stored-both}
+use Rattle.filled.specs.Filled.{filled, Stored}
+use Rattle.filled.proofs.Filling.{stored-both}
 use Rattle.writer.specs.declared.Drilled.{Drilled}
 use Rattle.writer.specs.declared.checks.Verdict.{Verdict}
 use Rattle.writer.specs.declared.checks.Verdict.the-variants as verdicts
 use Rattle.writer.specs.Drills.{settings-record, drill, Refused, first-refused}
-use Rattle.writer.specs.Drills.{drilled, judge-room, writing, run-after}
+use Rattle.writer.specs.Drills.{drilled, check-room, writing, run-after}
 use Rattle.writer.specs.Parts.{line-bytes, verdict}
 use Rattle.writer.specs.Writes.{WritesLog, Writes}
 use Rattle.writer.proofs.Refusals.{refused-number}
@@ -45,7 +45,7 @@ module _ (s : Settings) (line run : List ℕ) where
     too-short h = lt-leb (length (drill s line)) (length run) (omega arith)
 
     pub answers-8 : length run < bytes → (r : Drilled) → r ≡ drilled 8 0 (length line)
-        → r ≡ judge-room (length (drill s line)) (length run) (length line)
+        → r ≡ check-room (length (drill s line)) (length run) (length line)
     answers-8 h r e = rw (too-short h) e
 
     pub leaves-run : length run < bytes → run ≡ (if leb (length (drill s line)) (length run) then filled (drill s line) run else run)

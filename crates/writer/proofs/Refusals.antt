@@ -8,24 +8,24 @@ use lib.Dec.{ltb}
 use lib.ListN.{length}
 use Rattle.rules.specs.Numbers.{largest-stamp, in-range}
 use Rattle.rules.specs.declared.Settings.{Settings}
-use Rattle.rules.proofs.Choices.{both-ways, by-test}
+use Rattle.choice.proofs.Choices.{both-ways, by-test}
 use Rattle.lookup.specs.Places.{Place, place-of}
 use Rattle.lookup.proofs.PlaceFacts.{none-is-not-some}
-use Rattle.writer.specs.Drills.{drill, Refused, judge-character, first-of, first-refused, drilled, judge-room, judge-line, writing}
+use Rattle.writer.specs.Drills.{drill, Refused, check-character, first-of, first-refused, drilled, check-room, check-line, writing}
 use Rattle.writer.specs.declared.Drilled.{Drilled}
 
 -- settings out of range, a refused character, or the room
 pub by-checks : (P : Drilled → Type 0) (s : Settings) (line : List ℕ) (room : ℕ)
     → P (drilled 1 0 0)
     → ((r : Refused) → first-refused 0 line ≡ some r → P (drilled (r .number) 0 (r .position)))
-    → (in-range s ≡ true → first-refused 0 line ≡ none → P (judge-room (length (drill s line)) room (length line)))
+    → (in-range s ≡ true → first-refused 0 line ≡ none → P (check-room (length (drill s line)) room (length line)))
     → P (writing s line room)
 unfolding writing
 by-checks P s line room out-of-range refused all-fine =
     by-test P (in-range s) (λ i. by-first i (first-refused 0 line) refl) (λ _. out-of-range)
   where
     by-first : in-range s ≡ true → (o : Option Refused) → first-refused 0 line ≡ o
-        → P (judge-line (length (drill s line)) room (length line) o)
+        → P (check-line (length (drill s line)) room (length line) o)
     by-first i none e = all-fine i e
     by-first i (some r) e = refused r e
 
@@ -39,7 +39,7 @@ refused-number P ten four n (c ∷ cs) r = by-place (place-of c) (first-refused 
     is number p e = let same : r .number ≡ number = cc in rw same p
 
     by-place : (o : Option Place) (later : Option Refused) → (later ≡ some r → P (r .number))
-        → first-of (judge-character n o) later ≡ some r
+        → first-of (check-character n o) later ≡ some r
         → P (r .number)
     by-place none later l = is 10 ten
     by-place (some p) later l =

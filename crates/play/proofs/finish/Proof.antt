@@ -1,6 +1,6 @@
 -- `play::finish` meets its contract: a text is answered, since there is room, and the number is neither 2 nor 8. `o` is the entry.
 use borrow.Author.Needs.{needs}
-use Rattle.pieces.specs.Views.{reader-of}
+use Rattle.log_reader.specs.Views.{reader-of}
 use Rattle.play.proofs.Playing.{end-shown}
 use Rattle.play.proofs.finish.Statement.{statement}
 use Rattle.play.proofs.finish.Tie as tie

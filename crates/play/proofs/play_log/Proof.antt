@@ -4,7 +4,7 @@ use borrow.Author.Needs.{needs}
 use native.Mathlib.Omega.{arith}
 use mathlib.Core.Path.{sym, _∙_}
 use lib.Seq.{length-take-le}
-use Rattle.pieces.specs.Views.{reader-of}
+use Rattle.log_reader.specs.Views.{reader-of}
 use Rattle.play.proofs.Playing.{taken, Going-on, to-come, begins, fits-buffer, was-refused, goes-on}
 use Rattle.play.proofs.play_log.Statement.{statement}
 use Rattle.play.proofs.play_log.Tie as tie

@@ -1,6 +1,6 @@
 -- `play::play_piece` meets its contract: a text is answered, since the piece fits and there is room. `o` is the entry.
 use borrow.Author.Needs.{needs}
-use Rattle.pieces.specs.Views.{reader-of}
+use Rattle.log_reader.specs.Views.{reader-of}
 use Rattle.play.proofs.Playing.{text-shown, turned}
 use Rattle.play.proofs.play_piece.Statement.{statement}
 use Rattle.play.proofs.play_piece.Tie as tie

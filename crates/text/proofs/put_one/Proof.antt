@@ -1,7 +1,7 @@
 -- `text::put_one` meets its contract.
 use borrow.Author.Needs.{needs}
 use lib.ListN.{length-set}
-use Rattle.runs.proofs.Filling.{stored-1}
+use Rattle.filled.proofs.Filling.{stored-1}
 use Rattle.text.proofs.put_one.Statement.{statement}
 use Rattle.text.proofs.put_one.Tie as tie
 

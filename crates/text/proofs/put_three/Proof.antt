@@ -2,7 +2,7 @@
 use borrow.Author.Needs.{needs}
 use native.Mathlib.Omega.{arith}
 use lib.ListN.{length-set}
-use Rattle.runs.proofs.Filling.{stored-3}
+use Rattle.filled.proofs.Filling.{stored-3}
 use Rattle.text.proofs.put_three.Statement.{statement}
 use Rattle.text.proofs.put_three.Tie as tie
 

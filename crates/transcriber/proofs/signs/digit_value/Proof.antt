@@ -1,7 +1,7 @@
 -- `signs::digit_value` meets its contract.
 use borrow.Author.Needs.{needs}
 use Rattle.notation.specs.Transcribing.{digit-value}
-use Rattle.numbers.proofs.Digits.{digit-from}
+use Rattle.decimals.proofs.Digits.{digit-from}
 use Rattle.transcriber.proofs.signs.digit_value.Statement.{statement}
 use Rattle.transcriber.proofs.signs.digit_value.Tie as tie
 

@@ -1,0 +1,32 @@
+-- `console_text::put_words` meets its contract.
+use borrow.Author.Needs.{needs}
+use native.Mathlib.Omega.{arith}
+use Prim.Native.Nat.{_-_}
+use lib.ListN.{length}
+use Rattle.console_text.proofs.Picking.{Picking, begun, same-length, next-fits, taken, all-taken}
+use Rattle.console_text.proofs.put_words.Statement.{statement}
+use Rattle.console_text.proofs.put_words.Tie as tie
+
+abbrev Inv-loop : tie.InvT-loop
+Inv-loop out₀ at board boards words next₀ i₀ out next i = Picking boards words board out₀ at out next i
+
+abbrev μ-loop : tie.MeasureT-loop
+μ-loop out₀ at board boards words next₀ i₀ out next i = length words - i
+
+pub put-words-spec : {M : Type 1} → statement M
+put-words-spec =
+    tie.close
+    (tie.spec
+    Inv-loop
+    μ-loop
+    (λ c. begun _ _ _ _ _)
+    (λ c. omega (arith, c .before .before .before .before .before .before .before .pre .0, c .before .before .loop-test .taken))
+    (λ c κs. search needs)
+    (λ c. search needs)
+    (λ c. search needs)
+    (λ c κs. rw (c .before .wide .ensures) (next-fits _ _ _ (c .before .before .before .before .before .before .before .before .before .pre .0) _ _ (c .before .before .before .before .before .before .before .before .before .pre .1) _ _ _ (c .before .before .before .before .before .loop .inv) (c .before .before .before .before .loop-test .taken)))
+    (λ c. search needs)
+    (λ c. search needs)
+    (λ c. taken _ _ _ (c .before .before .before .before .before .before .before .before .before .before .before .before .pre .0) _ _ (c .before .before .before .before .before .before .before .before .before .before .before .before .pre .1) _ _ _ (c .before .before .before .before .before .before .before .before .loop .inv) (c .before .before .before .before .before .before .before .loop-test .taken) _ _ (rw (c .before .before .before .before .wide .ensures) at (c .before .before .put-word .ensures)))
+    (λ c. same-length _ _ _ (c .before .before .before .before .before .pre .0) _ _ (c .before .before .before .before .before .pre .1) _ _ _ (c .before .loop .inv))
+    (λ c. all-taken _ _ _ (c .before .before .before .before .before .pre .0) _ _ (c .before .before .before .before .before .pre .1) _ _ _ (c .before .loop .inv) (c .loop-test .left)))

@@ -1,1 +1,0 @@
-// The second opinion on a log: definitions and laws alone. The code is in `second`.

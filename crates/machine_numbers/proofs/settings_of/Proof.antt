@@ -1,0 +1,10 @@
+-- `machine_numbers::settings_of` meets its contract.
+use borrow.Author.Needs.{needs}
+use Rattle.machine_numbers.proofs.settings_of.Statement.{statement}
+use Rattle.machine_numbers.proofs.settings_of.Tie as tie
+
+pub settings-of-spec : {M : Type 1} → statement M
+settings-of-spec =
+    tie.close
+    (tie.spec
+    (λ c. search needs))

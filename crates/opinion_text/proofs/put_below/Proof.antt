@@ -1,0 +1,40 @@
+-- `opinion_text::put_below` meets its contract: `told` is the place behind the status, `ended` behind the line end before it.
+use native.Mathlib.Omega.{arith}
+use borrow.Author.Needs.{needs}
+use mathlib.Core.Path.{_∙_}
+use Rattle.status_line.proofs.Statuses.{status-stored}
+use Rattle.opinion_text.proofs.Verdicts.{below-stored}
+use Rattle.opinion_text.proofs.put_below.Statement.{statement}
+use Rattle.opinion_text.proofs.put_below.Tie as tie
+
+same-length : tie.Need-same-length
+same-length c =
+    let told = c .before .before .before .before .before .before .before in
+    let ended = told .before .before .before .before in
+    c .before .before .put-bytes2 .kept .0 ∙ told .put-status .kept .0 ∙ ended .put-bytes .kept .0
+
+returns : tie.Need-returns
+returns c =
+    let told = c .before .before .before .before .before .before .before in
+    let ended = told .before .before .before .before in
+    let room = c .before .before .before .before .before .before .before .before .before .before .before .before .before .before .before .pre in
+    let first = ended .put-bytes .ensures .fits (omega (arith, room)) in
+    let long = ended .put-bytes .kept .0 in
+    let few = told .put-status .ensures .1 in
+    let second = status-stored _ _ _ _ _ _ _ (omega (arith, room, long, first .behind)) (told .put-status .ensures .0) in
+    let third = c .before .before .put-bytes2 .ensures .fits (omega (arith, room, long, first .behind, told .put-status .kept .0, few)) in (
+      below-stored _ _ _ _ _ _ _ _ _ _ _ (omega (arith, room)) first second third,
+      omega (arith, first .behind, few, third .behind),
+    )
+
+pub put-below-spec : {M : Type 1} → statement M
+put-below-spec =
+    tie.close
+    (tie.spec
+    (λ c. search needs)
+    (λ c κs. search needs)
+    (λ c κs. search needs)
+    (λ c. search needs)
+    (λ c κs. search needs)
+    same-length
+    returns)

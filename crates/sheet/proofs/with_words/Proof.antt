@@ -1,9 +1,0 @@
-use native.Mathlib.Omega.{arith}
-use Rattle.sheet.proofs.with_words.Statement.{statement}
-use Rattle.sheet.proofs.with_words.Tie as tie
-
-pub with-words-spec : {M : Type 1} → statement M
-with-words-spec =
-    tie.close
-    (tie.spec
-    (λ c. omega arith))
