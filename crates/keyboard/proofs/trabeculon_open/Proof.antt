@@ -13,4 +13,4 @@ trabeculon-open-spec =
     (λ c. search needs)
     (λ c κs. tt)
     (λ c. rw (← c .before .before .before .«open» .ensures, c .before .enum-told .given .1, ← c .no-machine .ensures))
-    (λ c. rw (← c .before .before .before .before .«open» .ensures, c .before .before .machine .given .1, ← c .in_numbers .ensures)))
+    (λ c. rw (← c .before .before .before .before .«open» .ensures, c .before .before .machine .given .1, ← c .in-numbers .ensures)))

@@ -31,4 +31,4 @@ trabeculon-step-spec =
     let d = c .before .before .before .before .before in
     rw (← d .before .before .before .before .machine-of .ensures, d .before .before .before2 .given .1)
     (c .answer .ensures
-    ∙ gives-numbers (d .step .result) (d .step .ensures) (c .before .before .in_numbers .ensures) (c .before .committed .ensures))))
+    ∙ gives-numbers (d .step .result) (d .step .ensures) (c .before .before .in-numbers .ensures) (c .before .committed .ensures))))
