@@ -210,10 +210,11 @@ trabeculon_answer trabeculon_read_log(const uint8_t *log, size_t log_len,
  * time that it takes may grow as the square of the log's length, where few keys
  * are in use (measured, docs/INSPECTION.md).
  *
- * Proved: the answer and the run afterwards (Gives, second/specs/Whole.antt,
- * over opined, inspected/specs/OfLog.antt); that it is the reader's, that room
- * of two words for every 13 bytes suffices, and exactly when 14 and 8 are given
- * (SameAsReader, inspected/specs/SameAsReader.antt).
+ * Proved: the answer and the run afterwards (Gives,
+ * second_opinion/specs/Whole.antt, over opined, log_opinions/specs/OfLog.antt);
+ * that it is the reader's, that room of two words for every 13 bytes suffices,
+ * and exactly when 14 and 8 are given (SameAsReader,
+ * log_opinions/specs/SameAsReader.antt).
  */
 trabeculon_answer trabeculon_second_opinion(const uint8_t *log, size_t log_len,
                                             uint8_t *out, size_t out_len);
@@ -401,15 +402,15 @@ trabeculon_drill trabeculon_write_drill(uint16_t t, uint8_t j, uint8_t l,
  *
  * Proved: every machine whose K is a number of 8 bits, as all here are, has one
  * form in numbers, which names it (LosesNothing and AllFit,
- * flat/specs/LosesNothing.antt); events keep it well formed (keeps-formed in
- * KeyboardFacts, keyboard/specs/KeyboardFacts.antt); held is a set of keys, and
- * its ones are counted as keys (HeldFacts and CountsKeys,
+ * machine_numbers/specs/LosesNothing.antt); events keep it well formed
+ * (keeps-formed in KeyboardFacts, keyboard/specs/KeyboardFacts.antt); held is a
+ * set of keys, and its ones are counted as keys (HeldFacts and CountsKeys,
  * rules/specs/HeldFacts.antt); after any events from a fresh machine on a key
  * is held as its accepted downs and ups say, M and K are held, M in state 8
  * apart, and at most 6 are (HeldInSequences, rules/specs/HeldRules.antt). Which
  * bit and which field is whose is said by the definitions is-held
- * (rules/specs/Held.antt) and flat (flat/specs/Fields.antt). Tested: the 56
- * bytes (below, and tests/c/live_keyboard.c).
+ * (rules/specs/Held.antt) and in-numbers (machine_numbers/specs/Fields.antt).
+ * Tested: the 56 bytes (below, and tests/c/live_keyboard.c).
  */
 typedef struct {
     trabeculon_stamp last;
@@ -599,9 +600,9 @@ trabeculon_asked trabeculon_distance(trabeculon_machine machine,
  * so when it is asked, its screen and line are its own, demand 3 holds of them,
  * and 5 is given by its own last stamp (Opened-in-row); where the clock of one
  * keyboard begins does not matter (Moved-in-row, all four in
- * keyboards/specs/KeyboardsRuns.antt); and a row of numbers is stepped and
+ * keyboard_row/specs/KeyboardsRuns.antt); and a row of numbers is stepped and
  * asked as the row of machines that they name (As-machines,
- * keyboards/specs/KeyboardsFacts.antt, over step-at, row/specs/Row.antt).
+ * keyboard_row/specs/KeyboardsFacts.antt, over step-at, row/specs/Row.antt).
  */
 
 /*
@@ -653,11 +654,11 @@ typedef struct {
  * trabeculon_step takes them, which don't overlap. Either length may be 0; the
  * pointer is not null even then. In a row of none every number is refused 13.
  *
- * Proved: row-step-numbers (keyboards/specs/Keyboards.antt), over step-numbers
- * (keyboard/specs/Keyboard.antt); exactly when 13 is given and then 12, that
- * all else is the machine's own, what a refused event leaves, and that the
- * other machines and the row's length stay (RowStepFacts,
- * keyboards/specs/KeyboardsFacts.antt).
+ * Proved: row-step-numbers (keyboard_row/specs/Keyboards.antt), over
+ * step-numbers (keyboard/specs/Keyboard.antt); exactly when 13 is given and
+ * then 12, that all else is the machine's own, what a refused event leaves, and
+ * that the other machines and the row's length stay (RowStepFacts,
+ * keyboard_row/specs/KeyboardsFacts.antt).
  */
 trabeculon_row_stepped trabeculon_row_step(trabeculon_machine *row,
                                            size_t row_len,
@@ -674,10 +675,10 @@ trabeculon_row_stepped trabeculon_row_step(trabeculon_machine *row,
  * or board is not below row_len, which is tried first, before 12 too. The row
  * is read and not written. What the caller lends is as for trabeculon_row_step.
  *
- * Proved: row-distance-numbers (keyboards/specs/Keyboards.antt), over
+ * Proved: row-distance-numbers (keyboard_row/specs/Keyboards.antt), over
  * distance-numbers (keyboard/specs/Keyboard.antt); exactly when 13 is given,
  * and that it is refused as a tick at that keyboard is (RowDistanceFacts,
- * keyboards/specs/KeyboardsFacts.antt).
+ * keyboard_row/specs/KeyboardsFacts.antt).
  */
 trabeculon_asked trabeculon_row_distance(const trabeculon_machine *row,
                                          size_t row_len, const uint32_t *pairs,
@@ -776,7 +777,7 @@ trabeculon_asked trabeculon_row_distance(const trabeculon_machine *row,
  * It is 120 bytes with no padding.
  *
  * Proved: the numbers lose nothing of a reader and name it (ReadersBack,
- * pieces/specs/ReadersBack.antt, over reader-numbers and reader-named,
+ * log_reader/specs/ReadersBack.antt, over reader-numbers and reader-named,
  * Readers.antt); which are well formed (accepted there, over formed,
  * keylog/specs/Pieces.antt), and that calls keep them so (piece-goes-on and
  * end-goes-on in InPiecesFacts).
