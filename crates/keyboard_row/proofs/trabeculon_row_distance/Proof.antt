@@ -73,7 +73,7 @@ use Rattle.keyboard_row.proofs.Placed.{size, any-machine, offset-fits, 
 use Rattle.keyboard_row.proofs.Walking.{M′, vals-of, wide, let-go}
 use Rattle.keyboard_row.proofs.not_asked as not-asked′
 use Rattle.keyboard_row.proofs.not_asked.Symbol as not-asked-def
-use Rattle.keyboard_row.proofs.not_asked.Symbol.{name as #keyboards·not-asked}
+use Rattle.keyboard_row.proofs.not_asked.Symbol.{name as #keyboard-row·not-asked}
 use Rattle.keyboard_row.proofs.not_asked.Met as not-asked-thm
 use Rattle.keyboard_row.proofs.trabeculon_row_distance.Key.{name as #own}
 use Rattle.keyboard_row.proofs.trabeculon_row_distance as row-distance
@@ -205,7 +205,7 @@ module _ {M : Type 1} (𝓤 : URA M) (H : Heap 𝓤) (A : Atoms 𝓤) (W : Given
   module _ (C : Calls 𝓤 H) (Λ : Loops 𝓤 H) (fm : FmC 𝓤 H (W .laws) C)
       (known-is-keyboard : Triple 𝓤 (C #row·is-keyboard) (IsKeyboard 𝓤 H A mem run))
       (known-ask : Triple 𝓤 (C #keyboard·trabeculon-distance) (Ask 𝓤 H A mem run))
-      (known-not-asked : Triple 𝓤 (C #keyboards·not-asked) (NotAsked 𝓤 H A mem run)) where
+      (known-not-asked : Triple 𝓤 (C #keyboard-row·not-asked) (NotAsked 𝓤 H A mem run)) where
     module _ (l₀ l₁ l₂ l₃ l₄ l₅ l₆ l₇ l₈ l₉ l₁₀ l₁₁ l₁₂ : ℕ) where
       -- the locals, and what each holds; and those where the parameters are as passed
       abbrev locals : (v₀ v₁ v₂ v₃ v₄ v₅ v₆ v₇ v₈ v₉ v₁₀ v₁₁ v₁₂ : Option Val) → List Local
@@ -320,7 +320,7 @@ module _ {M : Type 1} (𝓤 : URA M) (H : Heap 𝓤) (A : Atoms 𝓤) (W : Given
 
 module _ {M : Type 1} (𝓤 : URA M) (H : Heap 𝓤) (A : Atoms 𝓤) (W : Given 𝓤 H A) (mem : Memory → SProp 𝓤) (run : Routine → Fun 𝓤) where
   row-distance-walks : (C : Calls 𝓤 H) (Λ : Loops 𝓤 H) → FmC 𝓤 H (W .laws) C → Triple 𝓤 (C #row·is-keyboard) (IsKeyboard 𝓤 H A mem run)
-      → Triple 𝓤 (C #keyboard·trabeculon-distance) (Ask 𝓤 H A mem run) → Triple 𝓤 (C #keyboards·not-asked) (NotAsked 𝓤 H A mem run)
+      → Triple 𝓤 (C #keyboard·trabeculon-distance) (Ask 𝓤 H A mem run) → Triple 𝓤 (C #keyboard-row·not-asked) (NotAsked 𝓤 H A mem run)
       → Walks 𝓤 H A row-distance.ended stayed (WpFn 𝓤 H C Λ code.function) (row-distance.clauses 𝓤 H A mem run)
   row-distance-walks C Λ fm known-is-keyboard known-ask known-not-asked =
       walked 𝓤 H A row-distance.ended stayed (row-distance.clauses 𝓤 H A mem run) (WpFn 𝓤 H C Λ code.function)
@@ -338,7 +338,7 @@ module _ {M : Type 1} (𝓤 : URA M) (H : Heap 𝓤) (A : Atoms 𝓤) (W : Given
       known-is-keyboard known-ask known-not-asked))
 
   row-distance-meets : (𝓣 : Tables 𝓤 H) → Triple 𝓤 (𝓣 .C #row·is-keyboard) (IsKeyboard 𝓤 H A mem run)
-      → Triple 𝓤 (𝓣 .C #keyboard·trabeculon-distance) (Ask 𝓤 H A mem run) → Triple 𝓤 (𝓣 .C #keyboards·not-asked) (NotAsked 𝓤 H A mem run)
+      → Triple 𝓤 (𝓣 .C #keyboard·trabeculon-distance) (Ask 𝓤 H A mem run) → Triple 𝓤 (𝓣 .C #keyboard-row·not-asked) (NotAsked 𝓤 H A mem run)
       → Meets 𝓤 H A row-distance.signature (WpFn 𝓤 H (𝓣 .C) (𝓣 .Λ) code.function) (row-distance.spec 𝓤 H A mem run)
   row-distance-meets 𝓣 known-is-keyboard known-ask known-not-asked =
       walk-meets 𝓤 H A row-distance.ended stayed W (
@@ -370,5 +370,5 @@ trabeculon-row-distance-spec 𝓤 H 𝓜 𝓖 𝓡 =
     (is-keyboard-thm.met 𝓤 H 𝓜 𝓖 𝓡))
     (cited 𝓤 H (Ask 𝓤 H (𝓖 .A) (𝓜 .mem) (𝓡 .run)) 𝓜 𝓡 code.env #keyboard·trabeculon-distance ask-def.routine
     code.calls-keyboard·trabeculon-distance (ask-thm.met 𝓤 H 𝓜 𝓖 𝓡))
-    (cited 𝓤 H (NotAsked 𝓤 H (𝓖 .A) (𝓜 .mem) (𝓡 .run)) 𝓜 𝓡 code.env #keyboards·not-asked not-asked-def.routine
-    code.calls-keyboards·not-asked (not-asked-thm.met 𝓤 H 𝓜 𝓖 𝓡)))
+    (cited 𝓤 H (NotAsked 𝓤 H (𝓖 .A) (𝓜 .mem) (𝓡 .run)) 𝓜 𝓡 code.env #keyboard-row·not-asked not-asked-def.routine
+    code.calls-keyboard-row·not-asked (not-asked-thm.met 𝓤 H 𝓜 𝓖 𝓡)))

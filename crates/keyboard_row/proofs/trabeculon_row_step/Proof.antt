@@ -78,11 +78,11 @@ use Rattle.keyboard_row.proofs.Advanced as AD
 use Rattle.keyboard_row.proofs.Advanced.Laws as AD′
 use Rattle.keyboard_row.proofs.advance as advance
 use Rattle.keyboard_row.proofs.advance.Symbol as advance-def
-use Rattle.keyboard_row.proofs.advance.Symbol.{name as #keyboards·advance}
+use Rattle.keyboard_row.proofs.advance.Symbol.{name as #keyboard-row·advance}
 use Rattle.keyboard_row.proofs.advance.Met as advance-thm
 use Rattle.keyboard_row.proofs.no_keyboard as no-keyboard′
 use Rattle.keyboard_row.proofs.no_keyboard.Symbol as no-keyboard-def
-use Rattle.keyboard_row.proofs.no_keyboard.Symbol.{name as #keyboards·no-keyboard}
+use Rattle.keyboard_row.proofs.no_keyboard.Symbol.{name as #keyboard-row·no-keyboard}
 use Rattle.keyboard_row.proofs.no_keyboard.Met as no-keyboard-thm
 use Rattle.keyboard_row.proofs.trabeculon_row_step.Key.{name as #own}
 use Rattle.keyboard_row.proofs.trabeculon_row_step as row-step
@@ -114,7 +114,7 @@ stayed = (
 
 -- the struct of what is told and the machine, by its fields' types
 abbrev both-ty : Ty → Ty → Ty
-both-ty tR tT = tyStruct (107 ∷ 101 ∷ 121 ∷ 98 ∷ 111 ∷ 97 ∷ 114 ∷ 100 ∷ 115 ∷ 58 ∷ 58 ∷ 65 ∷ 100 ∷ 118 ∷ 97 ∷ 110 ∷ 99 ∷ 101 ∷ 100 ∷ [])
+both-ty tR tT = tyStruct (107 ∷ 101 ∷ 121 ∷ 98 ∷ 111 ∷ 97 ∷ 114 ∷ 100 ∷ 95 ∷ 114 ∷ 111 ∷ 119 ∷ 58 ∷ 58 ∷ 65 ∷ 100 ∷ 118 ∷ 97 ∷ 110 ∷ 99 ∷ 101 ∷ 100 ∷ [])
     (tcons tR (tcons tT tnil))
 
 abbrev both-val : Val → Val → Val
@@ -327,8 +327,8 @@ module _ {M : Type 1} (𝓤 : URA M) (H : Heap 𝓤) (A : Atoms 𝓤) (W : Given
 
   module _ (C : Calls 𝓤 H) (Λ : Loops 𝓤 H) (fm : FmC 𝓤 H (W .laws) C)
       (known-is-keyboard : Triple 𝓤 (C #row·is-keyboard) (IsKeyboard 𝓤 H A mem run))
-      (known-advance : Triple 𝓤 (C #keyboards·advance) (Advance 𝓤 H A mem run))
-      (known-no-keyboard : Triple 𝓤 (C #keyboards·no-keyboard) (NoKeyboard 𝓤 H A mem run)) where
+      (known-advance : Triple 𝓤 (C #keyboard-row·advance) (Advance 𝓤 H A mem run))
+      (known-no-keyboard : Triple 𝓤 (C #keyboard-row·no-keyboard) (NoKeyboard 𝓤 H A mem run)) where
     module _ (l₀ l₁ l₂ l₃ l₄ l₅ l₆ l₇ l₈ l₉ l₁₀ l₁₁ l₁₂ l₁₃ l₁₄ l₁₅ l₁₆ : ℕ) where
       -- the locals, at the types that the function has; and those where the parameters are as passed
       abbrev locals : (v₀ v₁ v₂ v₃ v₄ v₅ v₆ v₇ v₈ v₉ v₁₀ v₁₁ v₁₂ v₁₃ v₁₄ v₁₅ v₁₆ : Option Val) → List Local
@@ -502,7 +502,7 @@ module _ {M : Type 1} (𝓤 : URA M) (H : Heap 𝓤) (A : Atoms 𝓤) (W : Given
 
 module _ {M : Type 1} (𝓤 : URA M) (H : Heap 𝓤) (A : Atoms 𝓤) (W : Given 𝓤 H A) (mem : Memory → SProp 𝓤) (run : Routine → Fun 𝓤) where
   row-step-walks : (C : Calls 𝓤 H) (Λ : Loops 𝓤 H) → FmC 𝓤 H (W .laws) C → Triple 𝓤 (C #row·is-keyboard) (IsKeyboard 𝓤 H A mem run)
-      → Triple 𝓤 (C #keyboards·advance) (Advance 𝓤 H A mem run) → Triple 𝓤 (C #keyboards·no-keyboard) (NoKeyboard 𝓤 H A mem run)
+      → Triple 𝓤 (C #keyboard-row·advance) (Advance 𝓤 H A mem run) → Triple 𝓤 (C #keyboard-row·no-keyboard) (NoKeyboard 𝓤 H A mem run)
       → Walks 𝓤 H A row-step.ended stayed (WpFn 𝓤 H C Λ code.function) (row-step.clauses 𝓤 H A mem run)
   row-step-walks C Λ fm known-is-keyboard known-advance known-no-keyboard =
       walked 𝓤 H A row-step.ended stayed (row-step.clauses 𝓤 H A mem run) (WpFn 𝓤 H C Λ code.function)
@@ -533,7 +533,7 @@ module _ {M : Type 1} (𝓤 : URA M) (H : Heap 𝓤) (A : Atoms 𝓤) (W : Given
       known-is-keyboard known-advance known-no-keyboard))
 
   row-step-meets : (𝓣 : Tables 𝓤 H) → Triple 𝓤 (𝓣 .C #row·is-keyboard) (IsKeyboard 𝓤 H A mem run)
-      → Triple 𝓤 (𝓣 .C #keyboards·advance) (Advance 𝓤 H A mem run) → Triple 𝓤 (𝓣 .C #keyboards·no-keyboard) (NoKeyboard 𝓤 H A mem run)
+      → Triple 𝓤 (𝓣 .C #keyboard-row·advance) (Advance 𝓤 H A mem run) → Triple 𝓤 (𝓣 .C #keyboard-row·no-keyboard) (NoKeyboard 𝓤 H A mem run)
       → Meets 𝓤 H A row-step.signature (WpFn 𝓤 H (𝓣 .C) (𝓣 .Λ) code.function) (row-step.spec 𝓤 H A mem run)
   row-step-meets 𝓣 known-is-keyboard known-advance known-no-keyboard =
       walk-meets 𝓤 H A row-step.ended stayed W (
@@ -570,7 +570,7 @@ trabeculon-row-step-spec 𝓤 H 𝓜 𝓖 𝓡 =
     (row-step-meets 𝓤 H (𝓖 .A) (givenOf 𝓤 H 𝓜 𝓖) (𝓜 .mem) (𝓡 .run) (tablesOf 𝓤 H 𝓜 (tables 𝓤 H 𝓜 𝓡 code.env))
     (cited 𝓤 H (IsKeyboard 𝓤 H (𝓖 .A) (𝓜 .mem) (𝓡 .run)) 𝓜 𝓡 code.env #row·is-keyboard is-keyboard-def.routine code.calls-row·is-keyboard
     (is-keyboard-thm.met 𝓤 H 𝓜 𝓖 𝓡))
-    (cited 𝓤 H (Advance 𝓤 H (𝓖 .A) (𝓜 .mem) (𝓡 .run)) 𝓜 𝓡 code.env #keyboards·advance advance-def.routine code.calls-keyboards·advance
+    (cited 𝓤 H (Advance 𝓤 H (𝓖 .A) (𝓜 .mem) (𝓡 .run)) 𝓜 𝓡 code.env #keyboard-row·advance advance-def.routine code.calls-keyboard-row·advance
     (advance-thm.met 𝓤 H 𝓜 𝓖 𝓡))
-    (cited 𝓤 H (NoKeyboard 𝓤 H (𝓖 .A) (𝓜 .mem) (𝓡 .run)) 𝓜 𝓡 code.env #keyboards·no-keyboard no-keyboard-def.routine
-    code.calls-keyboards·no-keyboard (no-keyboard-thm.met 𝓤 H 𝓜 𝓖 𝓡)))
+    (cited 𝓤 H (NoKeyboard 𝓤 H (𝓖 .A) (𝓜 .mem) (𝓡 .run)) 𝓜 𝓡 code.env #keyboard-row·no-keyboard no-keyboard-def.routine
+    code.calls-keyboard-row·no-keyboard (no-keyboard-thm.met 𝓤 H 𝓜 𝓖 𝓡)))

@@ -49,7 +49,7 @@ use Rattle.row.proofs.Leaving.{local, leave}
 use Rattle.keyboard_row.proofs.Walking.{M′}
 use Rattle.keyboard_row.proofs.trabeculon_row_step as passed
 use Rattle.keyboard_row.proofs.trabeculon_row_step.Symbol as passed-def
-use Rattle.keyboard_row.proofs.trabeculon_row_step.Symbol.{name as #keyboards·trabeculon-row-step}
+use Rattle.keyboard_row.proofs.trabeculon_row_step.Symbol.{name as #keyboard-row·trabeculon-row-step}
 use Rattle.keyboard_row.proofs.trabeculon_row_step.Met as passed-thm
 use Rattle.trabeculon.proofs.trabeculon_row_step.Key.{name as #own}
 use Rattle.trabeculon.proofs.trabeculon_row_step as own
@@ -121,7 +121,7 @@ module _ {M : Type 1} (𝓤 : URA M) (H : Heap 𝓤) (A : Atoms 𝓤) (W : Given
   goes = qed W Entry ∵ join ! $ frame ! $ done !
 
   module _ (C : Calls 𝓤 H) (Λ : Loops 𝓤 H) (fm : FmC 𝓤 H (W .laws) C)
-      (known : Triple 𝓤 (C #keyboards·trabeculon-row-step) (Passed 𝓤 H A mem run)) where
+      (known : Triple 𝓤 (C #keyboard-row·trabeculon-row-step) (Passed 𝓤 H A mem run)) where
     walk : ent 𝓤 (onEntry 𝓤 H A passed.signature (κ, (κ′, tt)) (q, (q′, tt)) a at)
         (WpFn 𝓤 H C Λ code.function (row-val ∷ p-val ∷ vint w16 s ∷ vint w8 pc ∷ vint w32 i ∷ vint w8 c ∷ vint w8 k ∷ t-val ∷ []) Post)
     walk =
@@ -161,7 +161,7 @@ module _ {M : Type 1} (𝓤 : URA M) (H : Heap 𝓤) (A : Atoms 𝓤) (W : Given
         (by ! (returned r w))))))))))))))))
 
 module _ {M : Type 1} (𝓤 : URA M) (H : Heap 𝓤) (A : Atoms 𝓤) (W : Given 𝓤 H A) (mem : Memory → SProp 𝓤) (run : Routine → Fun 𝓤) where
-  meets : (𝓣 : Tables 𝓤 H) → Triple 𝓤 (𝓣 .C #keyboards·trabeculon-row-step) (Passed 𝓤 H A mem run)
+  meets : (𝓣 : Tables 𝓤 H) → Triple 𝓤 (𝓣 .C #keyboard-row·trabeculon-row-step) (Passed 𝓤 H A mem run)
       → Meets 𝓤 H A own.signature (WpFn 𝓤 H (𝓣 .C) (𝓣 .Λ) code.function) (own.spec 𝓤 H A mem run)
   meets 𝓣 known y =
       via 𝓤 _ (fst∗ 𝓤 _ (emp 𝓤))
@@ -203,5 +203,5 @@ trabeculon-row-step-spec 𝓤 H 𝓜 𝓖 𝓡 =
     entered 𝓤 H (tripleOf 𝓤 H (𝓖 .A) own.signature (own.spec 𝓤 H (𝓖 .A) (𝓜 .mem) (𝓡 .run)))
     (tables 𝓤 H 𝓜 𝓡 code.env .C) (tables 𝓤 H 𝓜 𝓡 code.env .Λ) #own code.function (code.unfolded 𝓤 H 𝓜 𝓡)
     (meets 𝓤 H (𝓖 .A) (givenOf 𝓤 H 𝓜 𝓖) (𝓜 .mem) (𝓡 .run) (tablesOf 𝓤 H 𝓜 (tables 𝓤 H 𝓜 𝓡 code.env))
-    (cited 𝓤 H (Passed 𝓤 H (𝓖 .A) (𝓜 .mem) (𝓡 .run)) 𝓜 𝓡 code.env #keyboards·trabeculon-row-step passed-def.routine
-    code.calls-keyboards·trabeculon-row-step (passed-thm.met 𝓤 H 𝓜 𝓖 𝓡)))
+    (cited 𝓤 H (Passed 𝓤 H (𝓖 .A) (𝓜 .mem) (𝓡 .run)) 𝓜 𝓡 code.env #keyboard-row·trabeculon-row-step passed-def.routine
+    code.calls-keyboard-row·trabeculon-row-step (passed-thm.met 𝓤 H 𝓜 𝓖 𝓡)))
