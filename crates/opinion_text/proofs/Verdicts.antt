@@ -4,12 +4,12 @@ use native.Mathlib.Nat.{zero-add}
 use native.Mathlib.Omega.{arith}
 use borrow.Author.Tests.{le-leb, lt-leb}
 use mathlib.Core.Bool.{true, false, and-false}
-use mathlib.Core.Path.{_≡_, refl, sym, ap, _∙_}
+use mathlib.Core.Path.{_≡_, refl, ap, _∙_}
 use mathlib.Core.List.{List}
 use lib.Dec.{leb}
 use lib.ListN.{length, take}
 use lib.Seq.{take-append-seam}
-use Rattle.filled.specs.Filled.{filled, Stored}
+use Rattle.filled.specs.Filled.{Stored}
 use Rattle.filled.proofs.Filling.{stored-both}
 use Rattle.keylog.specs.Runs.{high-first, encoded}
 use Rattle.keylog.specs.declared.LogAnswer.{LogAnswer}

@@ -5,7 +5,7 @@ ghost use lib.ListN.{length};
 ghost use Rattle.filled.specs.Filled.{Stored};
 ghost use Rattle.text.specs.Text as texts;
 ghost use Rattle.opinion_text.specs.Verdict.{unpacked, lines};
-ghost use Rattle.opinion_text.specs.Shows.{longest-log, packed-room, text-room, shown, Shows, Within};
+ghost use Rattle.opinion_text.specs.Shows.{longest-log, packed-room, text-room, Shows, Within};
 
 // The longest log that is read.
 pub const LONGEST_LOG: usize = 1048576;
