@@ -372,6 +372,10 @@ const NO_PAIRS: [u64; 73] = [
     1_21_0000000000030,
 ];
 
+fn no_pairs(machine: Machine) -> Machine {
+    play(&[], NO_TIMES, machine, &NO_PAIRS)
+}
+
 // T_s 60, N 50: the keys 21 and 22 are lent as a pair, ャ. Both plain letters are shown. Due at 100 they are the pair.
 const BOTH_DOWN: [u64; 5] = [
     3_00000_0100_050_060_0,
@@ -472,7 +476,7 @@ fn main() {
         b"Kinds: 1 character down, 2 up, 3 thumb down, 4 up, 5 function, 6 tick. Thumbs: 0 left, 1 right.\n",
     );
     let settings = settings(100_050_050_0);
-    two_letters(play(&[], NO_TIMES, stand_in(settings), &NO_PAIRS));
+    two_letters(no_pairs(stand_in(settings)));
     lent_refused(open(settings));
     play_at(open(settings), &AT_KEYBOARDS);
 }
