@@ -1,21 +1,16 @@
 -- One keyboard of a row of numbers: what finding it says of the row, and what an event or an asking there comes to.
 use Prim.Native.Nat.{ℕ}
 use mathlib.Core.List.{List}
-use mathlib.Core.Logic.{inl, inr}
 use mathlib.Core.Option.{Option, none, some, Option·none-ne-some}
 use mathlib.Core.Path.{_≡_, refl, sym, _∙_}
-use lib.Dec.{leb}
 use lib.ListN.{length, set, length-set}
-use borrow.Author.Tests.{leb-true, leb-false, le-leb, lt-leb}
 use Rattle.rules.specs.Pairs.{Lent}
 use Rattle.rules.specs.declared.Stamp.{Stamp}
 use Rattle.rules.specs.declared.Event.{Event}
-use Rattle.choice.proofs.Choices.{both-ways, by-test}
 use Rattle.machine_numbers.specs.declared.MachineNumbers.{MachineNumbers}
 use Rattle.keyboard.specs.Keyboard.{step-numbers, distance-numbers}
-use Rattle.row.specs.Row.{most-keyboards}
 use Rattle.row.specs.RowFacts.{NoKeyboard}
-use Rattle.row.proofs.Found.{none-past, past-if-none, set-same}
+use Rattle.row.proofs.Found.{seat-found, seat-there, seat-none, seat-why, set-same}
 use Rattle.keyboard_row.specs.Keyboards.{keyboard-numbers, refused-13, answered-at, row-step-numbers, not-asked, row-distance-numbers}
 use Rattle.keyboard_row.specs.KeyboardsFacts.{FoundNumbers}
 
@@ -23,28 +18,19 @@ module _ (row : List MachineNumbers) (k : ℕ) where
   -- the keyboard that is found
   pub found-in : (f : MachineNumbers) → keyboard-numbers row k ≡ some f → FoundNumbers row k f
   unfolding keyboard-numbers
-  found-in f =
-      by-test (λ (o : Option MachineNumbers). o ≡ some f → FoundNumbers row k f) (leb (length row) most-keyboards)
-      (λ short h. record { not-above-16 = leb-true (length row) most-keyboards short; stands = h })
-      (λ _ h. absurd (Option·none-ne-some f h))
+  found-in f h = let found = seat-found row k f h in record { not-above-16 = found .0; stands = found .1 }
 
   pub is-there : (f : MachineNumbers) → FoundNumbers row k f → keyboard-numbers row k ≡ some f
   unfolding keyboard-numbers
-  is-there f found = rw (le-leb (length row) most-keyboards (found .not-above-16)) (found .stands)
+  is-there f found = seat-there row k f (found .not-above-16) (found .stands)
 
-  -- none is found exactly where 13 is due
   pub none-found : NoKeyboard (length row) k → keyboard-numbers row k ≡ none
   unfolding keyboard-numbers
-  none-found (inl above) = rw (lt-leb _ _ above)
-  none-found (inr past) =
-      both-ways (λ (o : Option MachineNumbers). o ≡ none) (leb (length row) most-keyboards) (none-past row k past) refl
+  none-found = seat-none row k
 
   pub none-why : keyboard-numbers row k ≡ none → NoKeyboard (length row) k
   unfolding keyboard-numbers
-  none-why =
-      by-test (λ (o : Option MachineNumbers). o ≡ none → NoKeyboard (length row) k) (leb (length row) most-keyboards)
-      (λ _ h. inr (past-if-none row k h))
-      (λ above _. inl (leb-false _ _ above))
+  none-why = seat-why row k
 
   pub not-13 : (f : MachineNumbers) → FoundNumbers row k f → ¬ NoKeyboard (length row) k
   not-13 f found due = Option·none-ne-some f (sym (none-found due) ∙ is-there f found)

@@ -35,7 +35,8 @@ use Rattle.keyboard_row.specs.Keyboards.{keyboard-numbers, RowNumbers, t
 use Rattle.keyboard_row.specs.Keyboards.{row-step-numbers, not-asked, row-distance-numbers}
 use Rattle.keyboard_row.specs.KeyboardsFacts.{FoundNumbers, RowStepFacts, RowDistanceFacts, NamedAt, AsMachines, As-machines}
 use Rattle.keyboard_row.specs.KeyboardsFacts.{machines-of, Has-machines}
-use Rattle.keyboard_row.proofs.Finding.{none-why, not-13, by-found, step-here, step-nowhere, distance-here, distance-nowhere, put-own}
+use Rattle.keyboard_row.proofs.Finding.{none-why, not-13, by-found, step-here, step-nowhere, distance-here, distance-nowhere}
+use Rattle.keyboard_row.proofs.Finding.{put-own}
 
 -- No event at a keyboard alone is refused 13, nor 12 but where what is lent is not good.
 
@@ -80,7 +81,8 @@ refused-answer : (g : Lent) (f : MachineNumbers) (e : Event) → step-numbers g 
     → step-numbers g f e ≡ refused-numbers f (step-numbers g f e .number)
 refused-answer g f e = keyboard-facts g .refuses f e
 
-no-machine-answer : (g : Lent) (f : MachineNumbers) (e : Event) → named f ≡ none → step-numbers g f e ≡ refused-numbers f (no-machine-number g)
+no-machine-answer : (g : Lent) (f : MachineNumbers) (e : Event) → named f ≡ none
+    → step-numbers g f e ≡ refused-numbers f (no-machine-number g)
 unfolding step-numbers
 no-machine-answer g f e h = rw h
 
@@ -233,7 +235,8 @@ as-machines g row machines k e beside =
     by-found row k (as-nowhere g row machines k e beside) (as-here g row machines k e beside)
 
 -- what stands at a place of the machines of a row
-machines-at : (row : List MachineNumbers) (k : ℕ) (f : MachineNumbers) → getElem? row k ≡ some f → getElem? (machines-of row) k ≡ some (machine-at f)
+machines-at : (row : List MachineNumbers) (k : ℕ) (f : MachineNumbers) → getElem? row k ≡ some f
+    → getElem? (machines-of row) k ≡ some (machine-at f)
 machines-at [] k f h = absurd (Option·none-ne-some f h)
 machines-at (x ∷ row) zero f h = ap (λ (y : MachineNumbers). some (machine-at y)) (some-one h)
 machines-at (x ∷ row) (suc k) f h = machines-at row k f h

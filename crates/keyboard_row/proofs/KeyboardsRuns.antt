@@ -105,7 +105,8 @@ row-handed-on g k row f (x ∷ xs) found =
     call found refl left (row-handed-on g k (row-step-numbers g row (x .board) (x .event) .row) h xs left)
 
 -- calls with the same events from the same numbers are answered the same
-same-calls : {g : Lent} {f : MachineNumbers} {es : List Event} {rs qs : List StepAnswer} → KeyboardCalls g f es rs → KeyboardCalls g f es qs → rs ≡ qs
+same-calls : {g : Lent} {f : MachineNumbers} {es : List Event} {rs qs : List StepAnswer} → KeyboardCalls g f es rs
+    → KeyboardCalls g f es qs → rs ≡ qs
 same-calls one.no-more one.no-more = refl
 same-calls {g} {f} (one.call {r = r} {es = es} {rs = rs} p more) (one.call {r = q} {rs = qs} p′ more′) =
     let same : r ≡ q = p ∙ sym p′ in

@@ -59,7 +59,8 @@ pub record RowDistanceFacts (g : Lent) (row : List MachineNumbers) (k : ℕ) (no
   pub gives-12 : row-distance-numbers g row k now .number ≡ 12 ↔ ((¬ NoKeyboard (length row) k) × NotGood g)
   pub as-alone : (f : MachineNumbers) → FoundNumbers row k f → row-distance-numbers g row k now ≡ distance-numbers g f now
   -- where it answers, the laws of the distance hold of the keyboard's own numbers
-  pub distance-laws : (f : MachineNumbers) (x : Machine) → FoundNumbers row k f → named f ≡ some x → row-distance-numbers g row k now .number ≡ 0
+  pub distance-laws : (f : MachineNumbers) (x : Machine) → FoundNumbers row k f → named f ≡ some x
+      → row-distance-numbers g row k now .number ≡ 0
       → DistanceNumbers g f x now
   -- asking is refused as a tick at that keyboard with that stamp is, 13 and 12 too
   pub same-refusals : row-distance-numbers g row k now .number ≡ row-step-numbers g row k (tick-at now) .told .number
@@ -95,7 +96,8 @@ pub record AsMachines (g : Lent) (row : List MachineNumbers) (machines : List Ma
 
 abbrev pub As-machines : Type 0
 As-machines =
-    (g : Lent) (row : List MachineNumbers) (machines : List Machine) (k : ℕ) (e : Event) → NamedAt k row machines → AsMachines g row machines k e
+    (g : Lent) (row : List MachineNumbers) (machines : List Machine) (k : ℕ) (e : Event) → NamedAt k row machines
+    → AsMachines g row machines k e
 
 -- Every row of numbers has a row of machines that it names wherever its numbers name any.
 abbrev pub machines-of : List MachineNumbers → List Machine
@@ -103,4 +105,5 @@ machines-of row = map machine-at row
 
 abbrev pub Has-machines : Type 0
 Has-machines =
-    (row : List MachineNumbers) (k : ℕ) (f : MachineNumbers) (x : Machine) → getElem? row k ≡ some f → named f ≡ some x → NamedAt k row (machines-of row)
+    (row : List MachineNumbers) (k : ℕ) (f : MachineNumbers) (x : Machine) → getElem? row k ≡ some f → named f ≡ some x
+    → NamedAt k row (machines-of row)

@@ -55,7 +55,8 @@ row-answers g row (x ∷ xs) =
 -- these are such calls, seen from every keyboard of the row
 abbrev pub Row-handed-on : Type 0
 Row-handed-on =
-    (g : Lent) (k : ℕ) (row : List MachineNumbers) (f : MachineNumbers) (xs : List RowEvent) → FoundNumbers row k f → RowCalls g k f xs (row-answers g row xs)
+    (g : Lent) (k : ℕ) (row : List MachineNumbers) (f : MachineNumbers) (xs : List RowEvent) → FoundNumbers row k f
+    → RowCalls g k f xs (row-answers g row xs)
 
 -- what a keyboard gets of a call: what is told, and its numbers in the row
 abbrev pub own-answer : RowStepAnswer → Option MachineNumbers → List StepAnswer
@@ -134,10 +135,12 @@ Opened-in-row =
 -- 8/12 of one keyboard's clock: d is added to every stamp of its own events, and the other keyboards, whose clocks are others, hold and
 -- get what they will. At each of its calls the same numbers, the machine's stamps moved, and asked at a stamp that moves too the same
 -- distance.
-pub record MovedInRow (g : Lent) (d k j : ℕ) (s : Settings) (f : MachineNumbers) (xs ys : List RowEvent) (rs qs : List RowNumbers) : Type 0 where
+pub record MovedInRow (g : Lent) (d k j : ℕ) (s : Settings) (f : MachineNumbers) (xs ys : List RowEvent)
+    (rs qs : List RowNumbers) : Type 0 where
   pub own-moved : KeyboardMoved g d s (events-of k xs) (answers-of k xs rs) (answers-of j ys qs)
       (last-numbers f (answers-of k xs rs)) (last-numbers f (answers-of j ys qs))
-  pub same-distance : (row other : List MachineNumbers) (now : Stamp) → Stays d now → FoundNumbers row k (last-numbers f (answers-of k xs rs))
+  pub same-distance : (row other : List MachineNumbers) (now : Stamp) → Stays d now
+      → FoundNumbers row k (last-numbers f (answers-of k xs rs))
       → FoundNumbers other j (last-numbers f (answers-of j ys qs))
       → row-distance-numbers g other j (later now d) ≡ row-distance-numbers g row k now
 

@@ -1,7 +1,7 @@
 // A row of keyboards that the console's C host drives itself. Their machines lie side by side as numbers in the host's own memory, and
 // are advanced there. What an event at such a row means is said in specs/Keyboards.antt.
-use machine_numbers::MachineNumbers;
 use keyboard::DistanceAnswer;
+use machine_numbers::MachineNumbers;
 use row::is_keyboard;
 use rules::Stamp;
 ghost use mathlib.Core.Path.{_≡_};

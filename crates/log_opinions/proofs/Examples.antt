@@ -13,5 +13,7 @@ use Rattle.log_opinions.specs.OfLog.{find, on-log, opined}
 use Rattle.log_opinions.specs.Examples.{TriedLogs}
 
 pub tried-logs : TriedLogs
-unfolding opined on-log find cut-up walk stated is-settings settings is-event event is-list list lent-good none-twice each-good pair-good pair-of names is-of is-pair-character same-key in-range opinion from ahead matters short heard held held-below number-after up A B FJ FL character code-point table
+unfolding opined on-log find cut-up walk stated is-settings settings is-event event is-list list lent-good none-twice each-good
+    pair-good pair-of names is-of is-pair-character same-key in-range opinion from ahead matters short heard held held-below
+    number-after up A B FJ FL character code-point table
 tried-logs = refl

@@ -21,7 +21,8 @@ use Rattle.rules.specs.declared.Event.{Event}
 use Rattle.choice.proofs.Choices.{both-ways, by-test, either}
 use Rattle.rules.proofs.Screen.{signs-append}
 use Rattle.keylog.specs.Records.{tag, is-settings, settings, is-event, event, is-list, list}
-use Rattle.keylog.specs.Reader.{Desk, closed, opened, running, RecordEffect, by-event, record-effect, Reading, fresh, refuse, by-effect, unless-refused}
+use Rattle.keylog.specs.Reader.{Desk, closed, opened, running, RecordEffect, by-event, record-effect, Reading, fresh, refuse}
+use Rattle.keylog.specs.Reader.{by-effect, unless-refused}
 use Rattle.keylog.specs.Reader.{read-record, cut-behind, is-cut, at-end, read, number-of, waiting-of}
 use Rattle.keylog.specs.Reader as reader
 use Rattle.keylog.specs.LogRecords.{records-of, tail-of}

@@ -21,8 +21,11 @@ abbrev pub tick-at : Stamp → Event
 tick-at now = record { kind = 6; key = record { 0 = 0 }; stamp = now }
 
 -- a down of a key that is held, and an up of one that is not, act as a tick
+abbrev pub idle : List Event → Event → Bool
+idle before e = (is 1 e && held (e .key) before) || (is 2 e && not (held (e .key) before))
+
 abbrev pub heard-as : List Event → Event → Event
-heard-as before e = if (is 1 e && held (e .key) before) || (is 2 e && not (held (e .key) before)) then tick-at (e .stamp) else e
+heard-as before e = if idle before e then tick-at (e .stamp) else e
 
 -- accepted events as they act
 unfoldable pub heard : List Event → List Event → List Event

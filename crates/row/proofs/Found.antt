@@ -6,6 +6,7 @@ use mathlib.Core.Logic.{_≢_, inl, inr}
 use mathlib.Core.Option.{Option, none, some, Option·none-ne-some}
 use mathlib.Core.Path.{_≡_, refl, sym, ap, _∙_}
 use lib.Dec.{leb}
+use Rattle.choice.specs.Choice.{if_then_else_}
 use lib.ListN.{length, getD, getElem?, set, length-set}
 use borrow.Author.Tests.{leb-true, leb-false, le-leb, lt-leb}
 use Rattle.rules.specs.Pairs.{Lent}
@@ -52,32 +53,48 @@ module _ {A : Type 0} where
   set-as-is (x ∷ xs) zero m h = cc
   set-as-is (x ∷ xs) (suc i) m h = ap (λ (l : List A). x ∷ l) (set-as-is xs i m h)
 
+-- What stands at a place of a row that is not above 16, as a row of machines and a row of numbers have it.
+module _ {A : Type 0} (row : List A) (k : ℕ) where
+  abbrev pub seat : Option A
+  seat = if leb (length row) most-keyboards then getElem? row k else none
+
+  pub seat-found : (m : A) → seat ≡ some m → (length row ≤ most-keyboards) × (getElem? row k ≡ some m)
+  seat-found m =
+      by-test (λ (o : Option A). o ≡ some m → (length row ≤ most-keyboards) × (getElem? row k ≡ some m)) (leb (length row) most-keyboards)
+      (λ short h. (leb-true (length row) most-keyboards short, h))
+      (λ _ h. absurd (Option·none-ne-some m h))
+
+  pub seat-there : (m : A) → length row ≤ most-keyboards → getElem? row k ≡ some m → seat ≡ some m
+  seat-there m short h = rw (le-leb (length row) most-keyboards short) h
+
+  -- none is found exactly where 13 is due
+  pub seat-none : NoKeyboard (length row) k → seat ≡ none
+  seat-none (inl above) = rw (lt-leb _ _ above)
+  seat-none (inr past) = both-ways (λ (o : Option A). o ≡ none) (leb (length row) most-keyboards) (none-past row k past) refl
+
+  pub seat-why : seat ≡ none → NoKeyboard (length row) k
+  seat-why =
+      by-test (λ (o : Option A). o ≡ none → NoKeyboard (length row) k) (leb (length row) most-keyboards)
+      (λ _ h. inr (past-if-none row k h))
+      (λ above _. inl (leb-false _ _ above))
+
 module _ (row : List Machine) (k : ℕ) where
   -- the keyboard that is found
   pub found-in : (m : Machine) → keyboard row k ≡ some m → Found row k m
   unfolding keyboard
-  found-in m =
-      by-test (λ (o : Option Machine). o ≡ some m → Found row k m) (leb (length row) most-keyboards)
-      (λ short h. record { not-above-16 = leb-true (length row) most-keyboards short; stands = h })
-      (λ _ h. absurd (Option·none-ne-some m h))
+  found-in m h = let f = seat-found row k m h in record { not-above-16 = f .0; stands = f .1 }
 
   pub is-there : (m : Machine) → Found row k m → keyboard row k ≡ some m
   unfolding keyboard
-  is-there m f = rw (le-leb (length row) most-keyboards (f .not-above-16)) (f .stands)
+  is-there m f = seat-there row k m (f .not-above-16) (f .stands)
 
-  -- none is found exactly where 13 is due
   pub none-found : NoKeyboard (length row) k → keyboard row k ≡ none
   unfolding keyboard
-  none-found (inl above) = rw (lt-leb _ _ above)
-  none-found (inr past) =
-      both-ways (λ (o : Option Machine). o ≡ none) (leb (length row) most-keyboards) (none-past row k past) refl
+  none-found = seat-none row k
 
   pub none-why : keyboard row k ≡ none → NoKeyboard (length row) k
   unfolding keyboard
-  none-why =
-      by-test (λ (o : Option Machine). o ≡ none → NoKeyboard (length row) k) (leb (length row) most-keyboards)
-      (λ _ h. inr (past-if-none row k h))
-      (λ above _. inl (leb-false _ _ above))
+  none-why = seat-why row k
 
   -- an event where no keyboard is found, and at one that is
   pub step-nowhere : (g : Lent) (e : Event) → keyboard row k ≡ none → step-at g row k e ≡ refused-13 row

@@ -101,7 +101,8 @@ module _ (g : Lent) (k : ℕ) where
   gives-own row x c m after f h left own =
       let t = subst (λ (a : RowAnswer). TellsAt (c .told) a) (step-own g k row x m f own) (h .0) in
       let on : after ≡ step g m (x .event) .machine
-      = one-found left (subst (λ (l : List Machine). Found l k (step g m (x .event) .machine)) (sym (h .1)) (found-own g k row x m f own)) in
+      = one-found left (subst (λ (l : List Machine). Found l k (step g m (x .event) .machine)) (sym (h .1))
+      (found-own g k row x m f own)) in
       record { answer = rw (t .number-is, t .items-are, t .sendings-are, on); packed = t .packed }
 
   own-at : (m : Machine) (xs : List RowEvent) (cs : List Called) → RowCalls g k m xs cs → Calls g m (events-of k xs) (answers-of k xs cs)
@@ -177,7 +178,8 @@ clock-moved-at g d k j s m xs ys cs ds is-opened c c′ moved stay =
       machine-moved = later-on .same-machine ∙ ap (λ (es : List Event). state g s es) moved ∙ both .states-moved
           ∙ ap (λ (z : Machine). clock.moved-state d accepted z) (sym (before .same-machine));
       same-asked = λ now stays r o a b.
-          asked-own b ∙ ap (λ (z : Machine). asking g z (later now d)) (later-on .same-machine ∙ ap (λ (es : List Event). state g s es) moved)
+          asked-own b ∙ ap (λ (z : Machine). asking g z (later now d)) (later-on .same-machine
+          ∙ ap (λ (es : List Event). state g s es) moved)
           ∙ both .same-distance now stays ∙ ap (λ (z : Machine). asking g z now) (sym (before .same-machine)) ∙ sym (asked-own a);
     }
 

@@ -86,7 +86,10 @@ abbrev chord : RowAnswer
 chord = row-step no-pairs longer (at-board 0 3 1 1_030)
 
 pub tried : Computed × Met
-unfolding keyboard step-at asking-at asking asking-with step step-with lent-good none-twice each-good in-some-pair alone pair-of judge is-new input well-formed is-held hold release how-many held-formed onesIn in-range opening one-event settle settle-in mark same-thumb same-key second-character-takes-thumb second-thumb-takes-character short-overlap sent character code-point table up A B FJ FL
+unfolding keyboard step-at asking-at asking asking-with step step-with lent-good none-twice each-good in-some-pair alone pair-of judge
+    is-new input well-formed is-held hold release how-many held-formed onesIn in-range opening one-event settle settle-in mark
+    same-thumb same-key second-character-takes-thumb second-thumb-takes-character short-overlap sent character code-point table up A B
+    FJ FL
 tried = (
   record {
     numbers = refl;

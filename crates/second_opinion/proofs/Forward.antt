@@ -1,4 +1,4 @@
--- Places in the list of events as they act.
+-- ListFrom in the list of events as they act.
 use Prim.Native.Nat.{ℕ, zero, suc, _+_, _-_, _<_, _≤_}
 use native.Mathlib.Numerals.{add-one}
 use native.Mathlib.Omega.{arith}

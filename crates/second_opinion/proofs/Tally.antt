@@ -18,9 +18,9 @@ use Rattle.rules.specs.declared.Items.{Items}
 use Rattle.opinions.specs.Opinion as opinions
 use Rattle.opinions.specs.Opinion.{Told, told, tell, from}
 use Rattle.second_opinion.specs.Places.{from-place}
-use Rattle.second_opinion.specs.Views.{Places, waiting, still-set, Set-in-range, decided, Goes-on, Decides}
+use Rattle.second_opinion.specs.Views.{ListFrom, waiting, still-set, Set-in-range, decided, Goes-on, Decides}
 use Rattle.second_opinion.specs.Telling.{told-of, packed, words-of, Counts}
-use Rattle.second_opinion.specs.declared.looking.Earlier.{Earlier}
+use Rattle.second_opinion.specs.declared.looking.EarlierPress.{EarlierPress}
 use Rattle.second_opinion.specs.declared.decisions.Set.{Set}
 use Rattle.second_opinion.specs.declared.decisions.Set.the-variants.{Free}
 use Rattle.second_opinion.specs.declared.decisions.Decision.{Decision}
@@ -39,9 +39,9 @@ no-decision s zero h es none = refl
 no-decision s (suc k) h es none = absurd (omega arith)
 
 -- what is told from a place, by the decision that the code makes there
-module _ (s : Settings) (p : Places) (n fuel : ℕ) (h : Set) (at : ℕ) (r : Decision) (pos : 0 < fuel)
+module _ (s : Settings) (p : ListFrom) (n fuel : ℕ) (h : Set) (at : ℕ) (r : Decision) (pos : 0 < fuel)
     (d : Decides p n r (opinions.decide s (still-set h) (p at))) where
-  told-over : (items : Items) (w : Earlier) → r ≡ Over items w → from s fuel (still-set h) (p at) ≡ told (listed items) (waiting w)
+  told-over : (items : Items) (w : EarlierPress) → r ≡ Over items w → from s fuel (still-set h) (p at) ≡ told (listed items) (waiting w)
   told-over items w q = one-decision s fuel (still-set h) (p at) pos ∙ rw (← d .as-told, q)
 
   told-on : (items : Items) (k : Set) (i : ℕ) → r ≡ On items k i
@@ -80,7 +80,7 @@ module _ (s : Settings) (bytes : List ℕ) (n fuel : ℕ) (h : Set) (at words : 
 
   module _ (r : Decision) (pos : 0 < fuel) (d : Decides (from-place bytes n) n r (opinions.decide s (still-set h) (from-place bytes n at)))
       (items : Items) (more : ℕ) (long : more ≡ length (signs (listed items))) where
-    pub counting-ends : (w : Earlier) → r ≡ Over items w → (k : ℕ) → k ≡ length (waiting w)
+    pub counting-ends : (w : EarlierPress) → r ≡ Over items w → (k : ℕ) → k ≡ length (waiting w)
         → Counts s bytes n (record { words = words + more; waiting = k })
     counting-ends w q k m =
         let e = told-over s (from-place bytes n) n fuel h at r pos d items w q in
@@ -93,7 +93,12 @@ module _ (s : Settings) (bytes : List ℕ) (n fuel : ℕ) (h : Set) (at words : 
         let next : Told = from s (fuel - 1) (still-set k) (from-place bytes n i) in
         let sum : words + length (signs (listed items ++ next .items)) ≡ length (words-of s bytes n) = rw e at (c .sum) in
         record {
-          sum = omega (arith, ap length (signs-append (listed items) (next .items)), length-append (signs (listed items)) (signs (next .items)));
+          sum = omega (
+            arith,
+            ap length (signs-append (listed items) (next .items)),
+            length-append (signs (listed items))
+                (signs (next .items)),
+          );
           waits = rw e at (c .waits);
           below = g .0;
           good = g .1;
@@ -106,7 +111,8 @@ placed at new run = take at run ++ new ++ drop (at + length new) run
 
 -- Writing into a run that held `before`: the next word comes to a place `behind`.
 pub record Writing (s : Settings) (bytes : List ℕ) (n fuel : ℕ) (h : Set) (at behind : ℕ) (before run : List ℕ) : Type 0 where
-  pub whole : placed behind (packed (signs (from s fuel (still-set h) (from-place bytes n at) .items))) run ≡ filled (packed (words-of s bytes n)) before
+  pub whole : placed behind (packed (signs (from s fuel (still-set h) (from-place bytes n at) .items))) run ≡ filled
+      (packed (words-of s bytes n)) before
   pub room : behind + length (packed (signs (from s fuel (still-set h) (from-place bytes n at) .items))) ≤ length run
   pub same : length run ≡ length before
   pub below : at ≤ n
@@ -139,10 +145,11 @@ module _ (s : Settings) (bytes : List ℕ) (n fuel : ℕ) (h : Set) (at behind :
   module _ (r : Decision) (pos : 0 < fuel) (d : Decides (from-place bytes n) n r (opinions.decide s (still-set h) (from-place bytes n at)))
       (items : Items) where
     -- the words of the last decision have room
-    pub last-fits : (w : Earlier) → r ≡ Over items w → behind + length (packed (signs (listed items))) ≤ length run
+    pub last-fits : (w : EarlierPress) → r ≡ Over items w → behind + length (packed (signs (listed items))) ≤ length run
     last-fits w q = rw (told-over s (from-place bytes n) n fuel h at r pos d items w q) at (c .room)
 
-    pub writing-ends : (w : Earlier) → r ≡ Over items w → (next : ℕ) (after : List ℕ) → Stored behind (packed (signs (listed items))) run next after
+    pub writing-ends : (w : EarlierPress) → r ≡ Over items w → (next : ℕ) (after : List ℕ)
+        → Stored behind (packed (signs (listed items))) run next after
         → after ≡ filled (packed (words-of s bytes n)) before
     writing-ends w q next after t = t .stored ∙ (rw (told-over s (from-place bytes n) n fuel h at r pos d items w q) at (c .whole))
 
@@ -150,7 +157,8 @@ module _ (s : Settings) (bytes : List ℕ) (n fuel : ℕ) (h : Set) (at behind :
       abbrev Left : Told
       Left = from s (fuel - 1) (still-set k) (from-place bytes n i)
 
-      split : packed (signs (from s fuel (still-set h) (from-place bytes n at) .items)) ≡ packed (signs (listed items)) ++ packed (signs (Left .items))
+      split : packed (signs (from s fuel (still-set h) (from-place bytes n at) .items)) ≡ packed (signs (listed items)) ++ packed
+          (signs (Left .items))
       split =
           ap (λ (t : Told). packed (signs (t .items))) (told-on s (from-place bytes n) n fuel h at r pos d items k i q)
           ∙ ap packed (signs-append (listed items) (Left .items))
@@ -162,7 +170,8 @@ module _ (s : Settings) (bytes : List ℕ) (n fuel : ℕ) (h : Set) (at behind :
       pub next-fits : behind + length (packed (signs (listed items))) ≤ length run
       next-fits = omega (arith, both-fit)
 
-      pub writing-goes-on : (next : ℕ) (after : List ℕ) → Stored behind (packed (signs (listed items))) run next after → length after ≡ length run
+      pub writing-goes-on : (next : ℕ) (after : List ℕ) → Stored behind (packed (signs (listed items))) run next after
+          → length after ≡ length run
           → Writing s bytes n (fuel - 1) k i next before after
       writing-goes-on next after t long =
           let g = goes-on s (from-place bytes n) n fuel h at r pos d items k i q in

@@ -16,8 +16,8 @@ use Rattle.opinions.specs.Opinion as opinions
 use Rattle.second_opinion.specs.Places.{Listed}
 use Rattle.second_opinion.specs.declared.looking.Due.{Due}
 use Rattle.second_opinion.specs.declared.looking.Due.the-variants as due
-use Rattle.second_opinion.specs.declared.looking.Earlier.{Earlier}
-use Rattle.second_opinion.specs.declared.looking.Earlier.the-variants as earlier
+use Rattle.second_opinion.specs.declared.looking.EarlierPress.{EarlierPress}
+use Rattle.second_opinion.specs.declared.looking.EarlierPress.the-variants as earlier
 use Rattle.second_opinion.specs.declared.looking.Seen.{Seen}
 use Rattle.second_opinion.specs.declared.looking.Seen.the-variants as seen
 use Rattle.second_opinion.specs.declared.decisions.Before.{Before}
@@ -31,16 +31,16 @@ abbrev pub when : Due → Option Stamp
 when due.Never = none
 when (due.At d) = some d
 
-abbrev pub pressed : Earlier → Option Event
+abbrev pub pressed : EarlierPress → Option Event
 pressed earlier.None = none
 pressed (earlier.Press e) = some e
 
 -- Places of a list are numbers, and `from` gives the list from a place on.
-abbrev pub Places : Type 0
-Places = ℕ → List Event
+abbrev pub ListFrom : Type 0
+ListFrom = ℕ → List Event
 
 -- the list from what is seen on
-abbrev pub seen-list : Places → Seen → List Event
+abbrev pub seen-list : ListFrom → Seen → List Event
 seen-list from seen.End = []
 seen-list from (seen.At i e) = e ∷ from (i + 1)
 
@@ -48,17 +48,17 @@ abbrev pub In-range : Event → Type 0
 In-range e = e .stamp .0 ≤ largest-stamp
 
 -- the event e stands at place i of a list of n events
-pub record Stands (from : Places) (n i : ℕ) (e : Event) : Type 0 where
+pub record Stands (from : ListFrom) (n i : ℕ) (e : Event) : Type 0 where
   pub below : i < n
   pub here : from i ≡ e ∷ from (i + 1)
   pub in-range : In-range e
 
-abbrev pub Stands-there : Places → ℕ → Seen → Type 0
+abbrev pub Stands-there : ListFrom → ℕ → Seen → Type 0
 Stands-there from n seen.End = Unit {0}
 Stands-there from n (seen.At i e) = Stands from n i e
 
 -- what is seen is the first event of a list, if it has one
-pub record Looks (from : Places) (n : ℕ) (r : Seen) (list : List Event) : Type 0 where
+pub record Looks (from : ListFrom) (n : ℕ) (r : Seen) (list : List Event) : Type 0 where
   pub seen : seen-list from r ≡ list
   pub there : Stands-there from n r
 
@@ -68,7 +68,7 @@ Small seen.End = Unit {0}
 Small (seen.At i e) = i + 1 < 2 ^ 64
 
 -- the letter that waits
-abbrev pub waiting : Earlier → List Press
+abbrev pub waiting : EarlierPress → List Press
 waiting earlier.None = []
 waiting (earlier.Press e) = press (e .key) (e .stamp) ∷ []
 
@@ -82,7 +82,7 @@ still-set set.Free = opinions.free
 still-set (set.Thumb O) = opinions.thumb O
 still-set (set.Given O) = opinions.given O
 
-abbrev pub decided : Places → Decision → opinions.Decision
+abbrev pub decided : ListFrom → Decision → opinions.Decision
 decided from (decision.Over items w) = opinions.over (listed items) (waiting w)
 decided from (decision.On items h i) = opinions.on (listed items) (still-set h) (from i)
 
@@ -97,7 +97,7 @@ Goes-on n (decision.Over items w) = Unit {0}
 Goes-on n (decision.On items h i) = (i ≤ n) × Set-in-range h
 
 -- what a decision says
-pub record Decides (from : Places) (n : ℕ) (r : Decision) (d : opinions.Decision) : Type 0 where
+pub record Decides (from : ListFrom) (n : ℕ) (r : Decision) (d : opinions.Decision) : Type 0 where
   pub as-told : decided from r ≡ d
   pub goes-on : Goes-on n r
 

@@ -6,15 +6,15 @@ use crate::deadlines::released_due;
 use crate::deadlines::thumb_due;
 use crate::deadlines::thumb_first_due;
 use crate::looking::Due;
-use crate::looking::Earlier;
+use crate::looking::EarlierPress;
 use crate::looking::Seen;
 use crate::looking::ahead;
 use crate::looking::is_late;
 use crate::places::heard_at;
-use rules::Items;
 use rules::Event;
 use rules::Face;
 use rules::Item;
+use rules::Items;
 use rules::Key;
 use rules::Settings;
 use rules::Thumb;
@@ -31,7 +31,8 @@ ghost use Rattle.rules.specs.Items.{listed};
 ghost use Rattle.opinions.specs.Earlier.{is};
 ghost use Rattle.opinions.specs.Opinion as opinions;
 ghost use Rattle.second_opinion.specs.Places.{from-place};
-ghost use Rattle.second_opinion.specs.Views.{Places, when, seen-list, In-range, Stands-there, marks, Ready, Set-in-range, Small, still-set, Decides};
+ghost use Rattle.second_opinion.specs.Views.{ListFrom, when, seen-list, In-range, Stands-there, marks, Ready, Set-in-range, Small};
+ghost use Rattle.second_opinion.specs.Views.{still-set, Decides};
 
 // A mark that comes first, if there is one.
 enum Before {
@@ -48,7 +49,7 @@ pub enum Set {
 
 // The list is over, and a letter may wait; or one goes on from a place.
 pub enum Decision {
-    Over(Items, Earlier),
+    Over(Items, EarlierPress),
     On(Items, Set, usize),
 }
 
@@ -156,11 +157,11 @@ fn parts(due: Due, e: Event) -> bool
 
 // S6: thumb, then letter, and the thumb was released.
 fn released(s: Settings, thumb: Event, letter: Event, due: Due, seen: Seen) -> Decision
-    ensures { λ r. ⌜ ((from : Places) (n : ℕ) → Stands-there from n seen
+    ensures { λ r. ⌜ ((from : ListFrom) (n : ℕ) → Stands-there from n seen
         → Decides from n r (opinions.released s thumb letter (when due) (seen-list from seen))) ⌝ }
 {
     match seen {
-        Seen::End => Decision::Over(Items::None, Earlier::Press(letter)),
+        Seen::End => Decision::Over(Items::None, EarlierPress::Press(letter)),
         Seen::At(i, e) => {
             if parts(due, e) {
                 return Decision::On(items(mark(s, thumb), alone(letter)), Set::Free, i);
@@ -186,7 +187,14 @@ fn from_released(
         (opinions.from-released s thumb letter release (from-place (now (events .entry)) n at)) ⌝ }
 {
     let due = released_due(letter, release);
-    let seen = ahead(events, n, at, Earlier::Press(letter), Earlier::None, due);
+    let seen = ahead(
+        events,
+        n,
+        at,
+        EarlierPress::Press(letter),
+        EarlierPress::None,
+        due,
+    );
     released(s, thumb, letter, due, seen)
 }
 
@@ -200,11 +208,11 @@ fn letter_first(
     seen: Seen,
 ) -> Decision
     requires { ⌜ Small seen ⌝ }
-    ensures { λ r. ⌜ ((from : Places) (n : ℕ) → In-range thumb → Stands-there from n seen
+    ensures { λ r. ⌜ ((from : ListFrom) (n : ℕ) → In-range thumb → Stands-there from n seen
         → Decides from n r (opinions.after (marks first) (opinions.letter-first s letter thumb (when due) (seen-list from seen)))) ⌝ }
 {
     match seen {
-        Seen::End => Decision::Over(only(first), Earlier::Press(letter)),
+        Seen::End => Decision::Over(only(first), EarlierPress::Press(letter)),
         Seen::At(i, e) => {
             if letter_takes(due, e, letter, thumb) {
                 return Decision::On(items(first, alone(letter)), Set::Given(thumb), i);
@@ -237,8 +245,8 @@ fn from_letter_first(
         events,
         n,
         at,
-        Earlier::Press(letter),
-        Earlier::Press(thumb),
+        EarlierPress::Press(letter),
+        EarlierPress::Press(thumb),
         due,
     );
     letter_first(s, first, letter, thumb, due, seen)
@@ -260,7 +268,7 @@ fn thumb_first(
         (opinions.thumb-first s thumb letter (when due) (seen-list (from-place (now (events .entry)) n) seen)) ⌝ }
 {
     match seen {
-        Seen::End => Decision::Over(Items::None, Earlier::Press(letter)),
+        Seen::End => Decision::Over(Items::None, EarlierPress::Press(letter)),
         Seen::At(i, e) => {
             if thumb_takes(due, e, thumb, letter) {
                 return from_letter_first(s, events, n, mark(s, thumb), letter, e, i + 1);
@@ -292,8 +300,8 @@ fn from_thumb_first(
         events,
         n,
         at,
-        Earlier::Press(letter),
-        Earlier::Press(thumb),
+        EarlierPress::Press(letter),
+        EarlierPress::Press(thumb),
         due,
     );
     thumb_first(s, events, n, thumb, letter, due, seen)
@@ -314,7 +322,7 @@ fn letter_alone(
         (opinions.letter-alone s letter (when due) (seen-list (from-place (now (events .entry)) n) seen)) ⌝ }
 {
     match seen {
-        Seen::End => Decision::Over(Items::None, Earlier::Press(letter)),
+        Seen::End => Decision::Over(Items::None, EarlierPress::Press(letter)),
         Seen::At(i, e) => {
             if in_time(3, due, e) {
                 return from_letter_first(s, events, n, Before::None, letter, e, i + 1);
@@ -332,7 +340,14 @@ fn from_letter(s: Settings, events: &[u8], n: usize, letter: Event, at: usize) -
         (opinions.from-letter s letter (from-place (now (events .entry)) n at)) ⌝ }
 {
     let due = letter_due(s, letter);
-    let seen = ahead(events, n, at, Earlier::Press(letter), Earlier::None, due);
+    let seen = ahead(
+        events,
+        n,
+        at,
+        EarlierPress::Press(letter),
+        EarlierPress::None,
+        due,
+    );
     letter_alone(s, events, n, letter, due, seen)
 }
 
@@ -344,7 +359,7 @@ fn thumb_alone(s: Settings, events: &[u8], n: usize, thumb: Event, due: Due, see
         (opinions.thumb-alone s thumb (when due) (seen-list (from-place (now (events .entry)) n) seen)) ⌝ }
 {
     match seen {
-        Seen::End => Decision::Over(Items::None, Earlier::None),
+        Seen::End => Decision::Over(Items::None, EarlierPress::None),
         Seen::At(i, e) => {
             if in_time(1, due, e) {
                 return from_thumb_first(s, events, n, thumb, e, i + 1);
@@ -362,17 +377,25 @@ fn with_thumb(s: Settings, events: &[u8], n: usize, thumb: Event, at: usize) -> 
         (opinions.decide s (opinions.thumb thumb) (from-place (now (events .entry)) n at)) ⌝ }
 {
     let due = thumb_due(s, thumb);
-    let seen = ahead(events, n, at, Earlier::None, Earlier::Press(thumb), due);
+    let seen = ahead(
+        events,
+        n,
+        at,
+        EarlierPress::None,
+        EarlierPress::Press(thumb),
+        due,
+    );
     thumb_alone(s, events, n, thumb, due, seen)
 }
 
 // S1: nothing set.
 fn with_nothing(s: Settings, events: &[u8], n: usize, at: usize) -> Decision
     requires { ⌜ Ready s (now events) n ⌝ }
-    ensures { λ r. ⌜ Decides (from-place (now (events .entry)) n) n r (opinions.decide s opinions.free (from-place (now (events .entry)) n at)) ⌝ }
+    ensures { λ r. ⌜ Decides (from-place (now (events .entry)) n) n r
+        (opinions.decide s opinions.free (from-place (now (events .entry)) n at)) ⌝ }
 {
     if n <= at {
-        return Decision::Over(Items::None, Earlier::None);
+        return Decision::Over(Items::None, EarlierPress::None);
     }
     let e = heard_at(events, at);
     let kind = e.kind;
@@ -392,7 +415,7 @@ fn with_given(s: Settings, events: &[u8], n: usize, thumb: Event, at: usize) -> 
         (opinions.decide s (opinions.given thumb) (from-place (now (events .entry)) n at)) ⌝ }
 {
     if n <= at {
-        return Decision::Over(Items::None, Earlier::None);
+        return Decision::Over(Items::None, EarlierPress::None);
     }
     let letter = heard_at(events, at);
     from_thumb_first(s, events, n, thumb, letter, at + 1)

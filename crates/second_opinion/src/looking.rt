@@ -18,7 +18,7 @@ pub enum Due {
 }
 
 // The event of an earlier press, if there is one.
-pub enum Earlier {
+pub enum EarlierPress {
     None,
     Press(Event),
 }
@@ -40,17 +40,17 @@ pub fn is_late(due: Due, e: Event) -> bool
 }
 
 // Whether an event has the key of an earlier press.
-fn is_of(press: Earlier, e: Event) -> bool
+fn is_of(press: EarlierPress, e: Event) -> bool
     ensures { λ r. ⌜ r ≡ opinions.of (pressed press) e ⌝ }
 {
     match press {
-        Earlier::None => false,
-        Earlier::Press(earlier) => same_key(e.key, earlier.key),
+        EarlierPress::None => false,
+        EarlierPress::Press(earlier) => same_key(e.key, earlier.key),
     }
 }
 
 // Whether an event matters to a letter and to a thumb that is set.
-fn matters(letter: Earlier, thumb: Earlier, e: Event) -> bool
+fn matters(letter: EarlierPress, thumb: EarlierPress, e: Event) -> bool
     ensures { λ r. ⌜ r ≡ opinions.matters (pressed letter) (pressed thumb) e ⌝ }
 {
     let kind = e.kind;
@@ -64,7 +64,7 @@ fn matters(letter: Earlier, thumb: Earlier, e: Event) -> bool
     }
 }
 
-fn decides(letter: Earlier, thumb: Earlier, due: Due, e: Event) -> bool
+fn decides(letter: EarlierPress, thumb: EarlierPress, due: Due, e: Event) -> bool
     ensures { λ r. ⌜ r ≡ (opinions.late (when due) e || opinions.matters (pressed letter) (pressed thumb) e) ⌝ }
 {
     if is_late(due, e) {
@@ -78,8 +78,8 @@ pub fn ahead(
     events: &[u8],
     n: usize,
     from: usize,
-    letter: Earlier,
-    thumb: Earlier,
+    letter: EarlierPress,
+    thumb: EarlierPress,
     due: Due,
 ) -> Seen
     requires { ⌜ Listed (now events) n ⌝ }

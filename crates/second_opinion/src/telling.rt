@@ -2,9 +2,9 @@
 use crate::decisions::Decision;
 use crate::decisions::Set;
 use crate::decisions::decide;
-use crate::looking::Earlier;
-use rules::Items;
+use crate::looking::EarlierPress;
 use layout::word;
+use rules::Items;
 use rules::Settings;
 ghost use Prim.Native.Nat.{_+_, _≤_};
 ghost use mathlib.Core.Path.{_≡_};
@@ -43,12 +43,12 @@ fn size(items: Items) -> usize
     }
 }
 
-fn how_many(letter: Earlier) -> u32
+fn how_many(letter: EarlierPress) -> u32
     ensures { λ r. ⌜ r ≡ length (waiting letter) ⌝ }
 {
     match letter {
-        Earlier::None => 0,
-        Earlier::Press(_) => 1,
+        EarlierPress::None => 0,
+        EarlierPress::Press(_) => 1,
     }
 }
 

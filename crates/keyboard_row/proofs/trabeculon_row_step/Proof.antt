@@ -114,7 +114,8 @@ stayed = (
 
 -- the struct of what is told and the machine, by its fields' types
 abbrev both-ty : Ty → Ty → Ty
-both-ty tR tT = tyStruct (107 ∷ 101 ∷ 121 ∷ 98 ∷ 111 ∷ 97 ∷ 114 ∷ 100 ∷ 95 ∷ 114 ∷ 111 ∷ 119 ∷ 58 ∷ 58 ∷ 65 ∷ 100 ∷ 118 ∷ 97 ∷ 110 ∷ 99 ∷ 101 ∷ 100 ∷ [])
+both-ty tR tT = tyStruct (107 ∷ 101 ∷ 121 ∷ 98 ∷ 111 ∷ 97 ∷ 114 ∷ 100 ∷ 95 ∷ 114 ∷ 111 ∷ 119 ∷ 58 ∷ 58 ∷ 65 ∷ 100 ∷ 118 ∷ 97 ∷ 110 ∷ 99
+    ∷ 101 ∷ 100 ∷ [])
     (tcons tR (tcons tT tnil))
 
 abbrev both-val : Val → Val → Val
@@ -194,7 +195,8 @@ module _ {M : Type 1} (𝓤 : URA M) (H : Heap 𝓤) (A : Atoms 𝓤) (mem : Mem
   no-keyboard-says r = exE 𝓤 _ (λ ws. snd∗ 𝓤 (sem 𝓤 H A (lasts no-keyboard′.ended tt tt ws)) (fact 𝓤 (r ≡ no-keyboard)))
 
 module _ {M : Type 1} (𝓤 : URA M) (H : Heap 𝓤) (A : Atoms 𝓤) (W : Given 𝓤 H A) (mem : Memory → SProp 𝓤) (run : Routine → Fun 𝓤)
-    (κ κ′ : Lft) (q q′ : Share) (b o : ℕ) (γ : GName) (ys : List MachineNumbers) (p : RefT (List ℕ)) (s : ℕ) (pc : ℕ) (i : ℕ) (c : ℕ) (k : ℕ)
+    (κ κ′ : Lft) (q q′ : Share) (b o : ℕ) (γ : GName) (ys : List MachineNumbers) (p : RefT (List ℕ)) (s : ℕ) (pc : ℕ) (i : ℕ) (c : ℕ)
+    (k : ℕ)
     (t : Stamp)
     (room : Room M′ (length ys)) (p-room : Room u32 (length (p .now))) (s-fits : s < 2 ^ 16) (pc-fits : pc < 2 ^ 8) (i-fits : i < 2 ^ 32)
     (c-fits : c < 2 ^ 8) (k-fits : k < 2 ^ 8) (t-is : Is S.the-row t (LL.vals S.the-type S′.the-laws t)) where

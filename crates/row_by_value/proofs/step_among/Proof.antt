@@ -1,5 +1,5 @@
--- `row_by_value::step_among` meets its contract: a walk of its MIR, by hand. The array is copied into memory, lent as a slice for a lifetime
--- that the walk makes, passed to `step_at`, taken back at the list that `step_at` says, and returned.
+-- `row_by_value::step_among` meets its contract: a walk of its MIR, by hand. The array is copied into memory, lent as a slice for a
+-- lifetime that the walk makes, passed to `step_at`, taken back at the list that `step_at` says, and returned.
 use mathlib.Core.Path.{_≡_, refl, sym, _∙_, ap, subst}
 use Prim.Native.Nat.{ℕ, _<_, _^_}
 use mathlib.Core.List.{[], _∷_, List}

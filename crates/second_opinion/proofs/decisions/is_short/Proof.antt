@@ -15,6 +15,11 @@ is-short-spec =
     (λ c κs. search needs)
     (λ c κs. search needs)
     (λ c.
-    rw (← c .before .before .before .before .in-time .ensures, c .before .before .before .if1 .taken, ← c .before .before .gap .ensures, ← c .before .gap2 .ensures)
+    rw (
+      ← c .before .before .before .before .in-time .ensures,
+      c .before .before .before .if1 .taken,
+      ← c .before .before .gap .ensures,
+      ← c .before .gap2 .ensures,
+    )
     (c .short-overlap .ensures))
     (λ c. rw (← c .before .in-time .ensures, c .if1 .left)))

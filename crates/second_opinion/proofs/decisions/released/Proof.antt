@@ -19,9 +19,16 @@ released-spec =
     rw (c .before .before .before .before .before .before .seen .given .1)
     (λ from n st.
     goes-on-at from n _ _ st _ _ tt _
-    (rw (← c .before .before .before .before .parts .ensures, c .before .before .before .if1 .taken, c .items .ensures, c .before .before .mark .ensures, c .before .alone .ensures))))
+    (rw (
+      ← c .before .before .before .before .parts .ensures,
+      c .before .before .before .if1 .taken,
+      c .items .ensures,
+      c .before .before .mark .ensures,
+      c .before .alone .ensures,
+    ))))
     (λ c κs. search needs)
     (λ c. rw (c .enum-told .given .1) (λ from n st. ends from n _ _ _ refl))
     (λ c.
     rw (c .before .before .before .before .seen .given .1)
-    (λ from n st. goes-on-at from n _ _ st _ _ tt _ (rw (← c .before .before .parts .ensures, c .before .if1 .left, c .together .ensures)))))
+    (λ from n st. goes-on-at from n _ _ st _ _ tt _
+    (rw (← c .before .before .parts .ensures, c .before .if1 .left, c .together .ensures)))))

@@ -23,7 +23,12 @@ thumb-first-spec =
     let st = met _ _ _ _ _ (w .seen .given .1) (w .before .before .before .pre .1) in
     (w .before .before .before .pre .0, (omega (arith, st .below), st .in-range)))
     (λ c.
-    rw (c .before .before .before .before .before .seen .given .1, ← c .before .before .before .thumb-takes .ensures, c .before .before .if1 .taken, ← c .before .mark .ensures)
+    rw (
+      c .before .before .before .before .before .seen .given .1,
+      ← c .before .before .before .thumb-takes .ensures,
+      c .before .before .if1 .taken,
+      ← c .before .mark .ensures,
+    )
     (c .from-letter-first .ensures))
     (λ c κs. search needs)
     (λ c.
@@ -35,7 +40,13 @@ thumb-first-spec =
     let st = met _ _ _ _ _ (w .seen .given .1) (w .before .before .before .pre .1) in
     (w .before .before .before .pre .0, (omega (arith, st .below), st .in-range)))
     (λ c.
-    rw (c .before .before .before .before .before .before .seen .given .1, ← c .before .before .before .before .thumb-takes .ensures, c .before .before .before .if1 .left, ← c .before .before .is-short .ensures, c .before .if2 .taken)
+    rw (
+      c .before .before .before .before .before .before .seen .given .1,
+      ← c .before .before .before .before .thumb-takes .ensures,
+      c .before .before .before .if1 .left,
+      ← c .before .before .is-short .ensures,
+      c .before .if2 .taken,
+    )
     (c .from-released .ensures))
     (λ c κs. search needs)
     (λ c. rw (c .enum-told .given .1) (ends _ _ _ _ _ refl))
@@ -43,4 +54,10 @@ thumb-first-spec =
     let w = c .before .before .before .before .before .before in
     rw (w .seen .given .1)
     (goes-on-at _ _ _ _ (met _ _ _ _ _ (w .seen .given .1) (w .before .before .before .pre .1)) _ _ tt _
-    (rw (← c .before .before .before .before .thumb-takes .ensures, c .before .before .before .if1 .left, ← c .before .before .is-short .ensures, c .before .if2 .left, c .together .ensures)))))
+    (rw (
+      ← c .before .before .before .before .thumb-takes .ensures,
+      c .before .before .before .if1 .left,
+      ← c .before .before .is-short .ensures,
+      c .before .if2 .left,
+      c .together .ensures,
+    )))))

@@ -11,5 +11,10 @@ is-too-many-spec =
     (λ c κs. search needs)
     (λ c. rw (eq-eqb _ 1 (c .before .before .if1 .taken), ← c .before .is-held .ensures, c .if2 .taken))
     (λ c κs. search needs)
-    (λ c. rw (eq-eqb _ 1 (c .before .before .before .if1 .taken), ← c .before .before .is-held .ensures, c .before .if2 .left, ← c .how-many-held .ensures))
+    (λ c. rw (
+      eq-eqb _ 1 (c .before .before .before .if1 .taken),
+      ← c .before .before .is-held .ensures,
+      c .before .if2 .left,
+      ← c .how-many-held .ensures,
+    ))
     (λ c. rw (ne-eqb _ 1 (c .if1 .left))))

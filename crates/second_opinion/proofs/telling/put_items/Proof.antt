@@ -25,19 +25,22 @@ put-items-spec =
     (λ c κs.
     let p = c .before .before .before .before in
     let o = p .before .before .before .before .before .before .before in
-    second-fits _ (o .args .out .now) _ _ _ (p .before .word2 .result) (c .word3 .result) (p .before .before .before .before .items2 .given .1)
+    second-fits _ (o .args .out .now) _ _ _ (p .before .word2 .result) (c .word3 .result)
+    (p .before .before .before .before .items2 .given .1)
     (p .before .word2 .ensures) (c .word3 .ensures) (o .pre) _ _ (p .put-word2 .ensures) (p .put-word2 .kept .0))
     (λ c. nothing-stored _ _ _ (c .enum-told .given .1))
     (λ c. search needs)
     (λ c.
     let p = c .before .before in
     let o = p .before .before .before .before .before .before .before in
-    one-stored _ (o .args .out .now) _ _ (p .before .word .result) (p .before .before .before .before .items .given .1) (p .before .word .ensures)
+    one-stored _ (o .args .out .now) _ _ (p .before .word .result) (p .before .before .before .before .items .given .1)
+    (p .before .word .ensures)
     _ _ (p .put-word .ensures))
     (λ c. c .before .before .put-word3 .kept .0 ∙ c .before .before .before .before .before .before .before .put-word2 .kept .0)
     (λ c.
     let t = c .before .before in
     let p = t .before .before .before .before .before in
     let o = p .before .before .before .before .before .before .before in
-    two-stored _ (o .args .out .now) _ _ _ (p .before .word2 .result) (t .before .word3 .result) (p .before .before .before .before .items2 .given .1)
+    two-stored _ (o .args .out .now) _ _ _ (p .before .word2 .result) (t .before .word3 .result)
+    (p .before .before .before .before .items2 .given .1)
     (p .before .word2 .ensures) (t .before .word3 .ensures) (o .pre) _ _ (p .put-word2 .ensures) _ _ (t .put-word3 .ensures)))

@@ -23,11 +23,13 @@ size-spec =
     (λ c. omega arith)
     (λ c. (rw (c .enum-told .given .1), omega arith))
     (λ c. (
-      c .one .ensures .0 ∙ ap length (one-item _ _ (c .before .word .result) (c .before .before .before .items .given .1) (c .before .word .ensures)),
+      c .one .ensures .0 ∙ ap length (one-item _ _ (c .before .word .result) (c .before .before .before .items .given .1)
+          (c .before .word .ensures)),
       omega arith,
     ))
     (λ c. (
-      two-lengths _ _ _ (c .before .before .before .word2 .result) (c .before .word3 .result) _ _ (c .before .before .before .before .before .items2 .given .1) (c .before .before .before .word2 .ensures)
+      two-lengths _ _ _ (c .before .before .before .word2 .result) (c .before .word3 .result) _ _
+          (c .before .before .before .before .before .items2 .given .1) (c .before .before .before .word2 .ensures)
           (c .before .word3 .ensures) (c .before .before .one2 .ensures .0) (c .one3 .ensures .0),
       omega arith,
     )))

@@ -1,0 +1,32 @@
+-- `worked_examples::say_with` is safe and ends.
+use Prim.Native.Nat.{_≤_, _-_}
+use lib.ListN.{length}
+use borrow.Author.Needs.{needs}
+use Rattle.worked_examples.proofs.say_with.Statement.{statement}
+use Rattle.worked_examples.proofs.say_with.Tie as tie
+
+abbrev Inv-loop : tie.InvT-loop
+Inv-loop text numbers next₀ i₀ next i = i ≤ length text
+
+abbrev μ-loop : tie.MeasureT-loop
+μ-loop text numbers next₀ i₀ next i = length text - i
+
+pub say-with-spec : {M : Type 1} → statement M
+say-with-spec =
+    tie.close
+    (tie.spec
+    Inv-loop
+    μ-loop
+    (λ c. search needs)
+    (λ c. search needs)
+    (λ c. search needs)
+    (λ c. search needs)
+    (λ c κs. search needs)
+    (λ c. search needs)
+    (λ c. search needs)
+    (λ c. search needs)
+    (λ c κs. search needs)
+    (λ c. search needs)
+    (λ c. search needs)
+    (λ c. search needs)
+    (λ c. search needs))
