@@ -58,7 +58,8 @@ pub extern "C" fn trabeculon_reader_piece(
     piece: &[u8],
     out: &mut [u8],
 ) -> PieceRead
-    ensures { λ r. ⌜ GivesPiece reader (now (list .entry)) (now (piece .entry)) (now (out .entry)) (accepted (now (list .entry)) reader) r (now (list .exit)) (now (out .exit)) ⌝ }
+    ensures { λ r. ⌜ GivesPiece reader (now (list .entry)) (now (piece .entry)) (now (out .entry))
+        (accepted (now (list .entry)) reader) r (now (list .exit)) (now (out .exit)) ⌝ }
 {
     handed_back(log_reader::feed_numbers(reader, list, piece, out))
 }

@@ -91,13 +91,14 @@ refuses g f e = go (named f) refl
         (lent-good g) (by (judge g x e)) (by (refused 12))
 
 -- a call at numbers that name a machine
-pub call-answers : (g : Lent) (f : MachineNumbers) (x : Machine) (e : Event) → named f ≡ some x → step-numbers g f e ≡ answered-numbers (step g x e)
+pub call-answers : (g : Lent) (f : MachineNumbers) (x : Machine) (e : Event) → named f ≡ some x
+    → step-numbers g f e ≡ answered-numbers (step g x e)
 unfolding step-numbers
 call-answers g f x e h = rw h
 
 -- what calls answer, and what the last numbers name
-runs-from : (g : Lent) {f : MachineNumbers} {es : List Event} {rs : List StepAnswer} (x : Machine) → named f ≡ some x → KeyboardCalls g f es rs
-    → (rs ≡ map answered-numbers (answers g x es)) × (named (last-numbers f rs) ≡ some (after g x es))
+runs-from : (g : Lent) {f : MachineNumbers} {es : List Event} {rs : List StepAnswer} (x : Machine) → named f ≡ some x
+    → KeyboardCalls g f es rs → (rs ≡ map answered-numbers (answers g x es)) × (named (last-numbers f rs) ≡ some (after g x es))
 runs-from g x h no-more = (refl, h)
 runs-from g x h (call {f = f} {kind = kind} {key = key} {stamp = stamp} {r = r} same more) =
     let e = event-of kind key stamp in

@@ -62,7 +62,8 @@ words-read r = take (r .items) (r .first ∷ r .second ∷ [])
 pub record HostFacts (g : Lent) : Type 0 where
   -- Of numbers that name a machine: the number of an event, and of asking, is document 01's.
   pub number-back : (f : MachineNumbers) (x : Machine) (e : Event) → named f ≡ some x → step-numbers g f e .number ≡ step g x e .number
-  pub asked-back : (f : MachineNumbers) (x : Machine) (now : Stamp) → named f ≡ some x → distance-numbers g f now .number ≡ asking g x now .number
+  pub asked-back : (f : MachineNumbers) (x : Machine) (now : Stamp) → named f ≡ some x
+      → distance-numbers g f now .number ≡ asking g x now .number
   -- Of numbers that name none: refused 12 if what is lent is not accepted, else 2.
   pub no-machine-12 : (f : MachineNumbers) (e : Event) (now : Stamp) → named f ≡ none → lent-good g ≡ false
       → (step-numbers g f e .number ≡ 12) × (distance-numbers g f now .number ≡ 12)

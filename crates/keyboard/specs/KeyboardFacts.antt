@@ -58,7 +58,8 @@ pub record KeyboardFacts (g : Lent) : Type 0 where
   -- The numbers that opening gives name the machine that it opened, or none if the settings are refused.
   pub opens : (s : Settings) → named (open-numbers (opening s) .machine) ≡ opening s .machine
   -- The numbers after an event name the machine after it, so calls that hand them on are the steps of one machine.
-  pub steps-on : (f : MachineNumbers) (x : Machine) (e : Event) → named f ≡ some x → named (step-numbers g f e .machine) ≡ some (step g x e .machine)
+  pub steps-on : (f : MachineNumbers) (x : Machine) (e : Event) → named f ≡ some x
+      → named (step-numbers g f e .machine) ≡ some (step g x e .machine)
   -- A refused event commits nothing and sends nothing, and the numbers are as given, whatever they are.
   pub refuses : (f : MachineNumbers) (e : Event) → step-numbers g f e .number ≢ 0
       → step-numbers g f e ≡ refused-numbers f (step-numbers g f e .number)

@@ -25,9 +25,11 @@ use Rattle.choice.proofs.Choices.{by-test, either}
 use Rattle.rules.proofs.Steps.{step-cases}
 use Rattle.rules.proofs.Formed.{stays-formed}
 use Rattle.machine_numbers.specs.declared.MachineNumbers.{MachineNumbers}
-use Rattle.machine_numbers.specs.Fields.{thumb-number, Rest, rest, in-numbers, key-numbers, no-character, no-second, second-fits, no-thumb, no-release}
+use Rattle.machine_numbers.specs.Fields.{thumb-number, Rest, rest, in-numbers, key-numbers, no-character}
+use Rattle.machine_numbers.specs.Fields.{no-second, second-fits, no-thumb, no-release}
 use Rattle.machine_numbers.specs.Fields.{character, second-character, with-thumb}
-use Rattle.machine_numbers.specs.Fields.{as-S1, as-S2, as-S3, as-S4, as-S5, as-S6, as-S7, as-S8, resting-named, settings-named, around, named}
+use Rattle.machine_numbers.specs.Fields.{as-S1, as-S2, as-S3, as-S4, as-S5, as-S6, as-S7, as-S8}
+use Rattle.machine_numbers.specs.Fields.{resting-named, settings-named, around, named}
 use Rattle.machine_numbers.specs.Fields.{no-settings, unopened, no-machine, is-no-machine}
 use Rattle.machine_numbers.specs.LosesNothing.{SecondFits, Fits, AllFit, LosesNothing}
 

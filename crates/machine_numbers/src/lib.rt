@@ -16,8 +16,10 @@ ghost use lib.Dec.{eqb, ltb};
 ghost use Rattle.choice.specs.Choice.{if_then_else_};
 ghost use Rattle.rules.specs.States.{at};
 ghost use Rattle.pairs.specs.Lent.{of-list};
-ghost use Rattle.machine_numbers.specs.Fields.{thumb-number, joined, in-numbers, no-character, no-second, second-fits, no-thumb, no-release};
-ghost use Rattle.machine_numbers.specs.Fields.{as-S1, as-S2, as-S3, as-S4, as-S5, as-S6, as-S7, as-S8, resting-named, settings-named, named};
+ghost use Rattle.machine_numbers.specs.Fields.{thumb-number, joined, in-numbers, no-character};
+ghost use Rattle.machine_numbers.specs.Fields.{no-second, second-fits, no-thumb, no-release};
+ghost use Rattle.machine_numbers.specs.Fields.{as-S1, as-S2, as-S3, as-S4, as-S5, as-S6, as-S7};
+ghost use Rattle.machine_numbers.specs.Fields.{as-S8, resting-named, settings-named, named};
 ghost use Rattle.machine_numbers.specs.Fields.{no-machine, no-settings, unopened, is-no-machine};
 ghost use Rattle.machine_numbers.specs.Views.{found-as, named-as};
 ghost use Rattle.machine_numbers.specs.Formed.{formed, rest-formed, thumb-at, second-at, resting-at, machine-at};
@@ -116,7 +118,15 @@ fn join(
 }
 
 // The same in a state in which no second character waits.
-fn join_one(machine: Machine, state: u8, key: u8, m: Stamp, thumb: u8, o: Stamp, r: Stamp) -> MachineNumbers
+fn join_one(
+    machine: Machine,
+    state: u8,
+    key: u8,
+    m: Stamp,
+    thumb: u8,
+    o: Stamp,
+    r: Stamp,
+) -> MachineNumbers
     ensures { λ f. ⌜ f ≡
         joined machine (record { state = state; key = key; m = m; second = 0; k = at 0; thumb = thumb; o = o; r = r }) ⌝ }
 {

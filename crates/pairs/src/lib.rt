@@ -6,7 +6,8 @@ use waits::same_key;
 ghost use mathlib.Core.Path.{_≡_};
 ghost use lib.Dec.{leb};
 ghost use lib.ListN.{length};
-ghost use Rattle.rules.specs.Pairs.{pairs-most, names, is-of, pair-of, is-pair, pair-character, in-some-pair, none-twice, is-pair-character, pair-good, each-good, lent-good};
+ghost use Rattle.rules.specs.Pairs.{pairs-most, names, is-of, pair-of, is-pair, pair-character, in-some-pair};
+ghost use Rattle.rules.specs.Pairs.{none-twice, is-pair-character, pair-good, each-good, lent-good};
 ghost use Rattle.pairs.specs.Lent.{pair-in, pairs-in, lent, paired};
 
 // So many pairs are accepted.

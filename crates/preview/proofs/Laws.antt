@@ -68,7 +68,8 @@ two-shown p =
     )
 
 -- the signs of one item or two, in front of what is shown
-pub holds-item : (p : Shown) {q : Signs} → Holds q (shown-list p) → (a : ℕ) → Holds (put-before a q) ((sign-unless-0 a ++ []) ++ shown-list p)
+pub holds-item : (p : Shown) {q : Signs} → Holds q (shown-list p) → (a : ℕ)
+    → Holds (put-before a q) ((sign-unless-0 a ++ []) ++ shown-list p)
 holds-item p h a = rw append-nil (holds-before a h (omega (arith, two-shown p)))
 
 pub holds-items : (p : Shown) {q : Signs} → Holds q (shown-list p) → (a b : ℕ)

@@ -12,7 +12,8 @@ use Rattle.rules.specs.OneEvent.{Done}
 use Rattle.rules.specs.ZeroDelay.{backspace}
 use Rattle.rules.specs.GivenBack.{Answer, step}
 use Rattle.rules.specs.Sequences.{after, Press, keys-of, characters, waiting, typed, state, presses, items, Committed, line}
-use Rattle.rules.specs.Demand3.{Demand-3, KeysInOrder, with-event, CommittedInTime, tick, TicksDoNotMatter, ScreenIsLine, NoBackspaceTakesCommitted}
+use Rattle.rules.specs.Demand3.{Demand-3, KeysInOrder, with-event, CommittedInTime, tick}
+use Rattle.rules.specs.Demand3.{TicksDoNotMatter, ScreenIsLine, NoBackspaceTakesCommitted}
 use Rattle.rules.specs.declared.Stamp.{Stamp}
 use Rattle.rules.specs.declared.Settings.{Settings}
 use Rattle.rules.specs.declared.Machine.{Machine}

@@ -209,7 +209,8 @@ module _ (g : Lent) (m : Machine) (now : Stamp) (a : Answers g m now) where
   due-commits : DueOrOverdue (asking g m now .distance) → step g m (tick now) .items ≢ []
   due-commits over none-left =
       let d = due-deadline over in
-      late-commits g (m .settings) (m .resting) (d .at) (d .is-deadline) (sym (ap (λ (r : Answer). r .items) (due-is-late over)) ∙ none-left)
+      late-commits g (m .settings) (m .resting) (d .at) (d .is-deadline)
+      (sym (ap (λ (r : Answer). r .items) (due-is-late over)) ∙ none-left)
 
   commits-due : step g m (tick now) .items ≢ [] → DueOrOverdue (asking g m now .distance)
   commits-due some-left = go (deadline g (m .settings) (m .resting)) refl

@@ -9,7 +9,8 @@ use lib.Dec.{ltb, leb, eqb}
 use lib.ListN.{length}
 use Rattle.rules.specs.Numbers.{keys, within}
 use Rattle.rules.specs.OneEvent.{same-key}
-use Rattle.rules.specs.Pairs.{Pair, Lent, pairs-most, T-s-least, T-s-most, N-least, N-most, names, is-of, pair-of, is-pair, none-twice, is-pair-character, pair-good, each-good, lent-good}
+use Rattle.rules.specs.Pairs.{Pair, Lent, pairs-most, T-s-least, T-s-most, N-least, N-most, names, is-of, pair-of}
+use Rattle.rules.specs.Pairs.{is-pair, none-twice, is-pair-character, pair-good, each-good, lent-good}
 use Rattle.rules.specs.PairFacts.{PairAsked, SameTwo, LentAsked, GoodExactly}
 use Rattle.rules.specs.declared.Key.{Key}
 use Rattle.choice.proofs.Choices.{either}

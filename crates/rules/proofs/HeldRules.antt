@@ -10,11 +10,13 @@ use Rattle.rules.specs.Numbers.{keys, largest-stamp, in-range}
 use Rattle.rules.specs.Held.{is-held, held-formed}
 use Rattle.rules.specs.Pairs.{Lent, lent-good}
 use Rattle.rules.specs.States.{at, fresh, at-or-before, keys-below, stamps-by, in-order, pair-lent, well-formed}
-use Rattle.rules.specs.GivenBack.{with-thumb, input, acts-as, held-after, Verdict, accepted, is-new, judge-input, judge, Answer, answer, step-with, step}
+use Rattle.rules.specs.GivenBack.{with-thumb, input, acts-as, held-after, Verdict, accepted, is-new}
+use Rattle.rules.specs.GivenBack.{judge-input, judge, Answer, answer, step-with, step}
 use Rattle.rules.specs.Sequences.{after, along, accepted-in, state, accepted-events}
 use Rattle.rules.specs.Demand3.{tick}
 use Rattle.rules.specs.DistanceFacts.{only-time-passes}
-use Rattle.rules.specs.HeldRules.{down, up, ActsAsTick, holding, answer-holding, SetNotRead, held-then, HeldAfterwards, held-through, AllHeld, not-released, HeldInSequences}
+use Rattle.rules.specs.HeldRules.{down, up, ActsAsTick, holding, answer-holding, SetNotRead, held-then}
+use Rattle.rules.specs.HeldRules.{HeldAfterwards, held-through, AllHeld, not-released, HeldInSequences}
 use Rattle.rules.specs.declared.Stamp.{Stamp}
 use Rattle.rules.specs.declared.Key.{Key}
 use Rattle.rules.specs.declared.Thumb.{Thumb}

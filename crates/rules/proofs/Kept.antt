@@ -10,7 +10,9 @@ use borrow.Author.Tests.{leb-false, ltb-false}
 use Rattle.rules.specs.Numbers.{keys, B, FJ, FL}
 use Rattle.rules.specs.Pairs.{Lent, is-pair, GN, alone}
 use Rattle.rules.specs.States.{lag, deadline}
-use Rattle.rules.specs.OneEvent.{Done, mark, same-thumb, same-key, second-character-takes-thumb, second-thumb-takes-character, short-overlap, pair-stays, short-pair, short-of, late, third, third-thumb, act, due-by, settle, one-event}
+use Rattle.rules.specs.OneEvent.{Done, mark, same-thumb, same-key, second-character-takes-thumb, second-thumb-takes-character}
+use Rattle.rules.specs.OneEvent.{short-overlap, pair-stays, short-pair, short-of, late, third, third-thumb, act, due-by, settle}
+use Rattle.rules.specs.OneEvent.{one-event}
 use Rattle.rules.specs.Sequences.{Press, press, keys-of, characters, waiting}
 use Rattle.rules.specs.declared.Stamp.{Stamp}
 use Rattle.rules.specs.declared.Key.{Key}

@@ -54,7 +54,8 @@ absent-after c l n e = go (eqb c 0) refl e
 one-place : (l : List ℕ) → distinct l ≡ true → (i j : ℕ) → getD l i 0 ≢ 0 → getD l i 0 ≡ getD l j 0 → i ≡ j
 one-place [] d i j n e = absurd (n refl)
 one-place (c ∷ l) d zero zero n e = refl
-one-place (c ∷ l) d zero (suc j) n e = absurd (absent-at c l n (absent-after c l n (and-eq-true-iff (eqb c 0 || absent c l) (distinct l) .0 d .0)) j e)
+one-place (c ∷ l) d zero (suc j) n e =
+    absurd (absent-at c l n (absent-after c l n (and-eq-true-iff (eqb c 0 || absent c l) (distinct l) .0 d .0)) j e)
 one-place (c ∷ l) d (suc i) zero n e =
     let m : c ≢ 0 = λ z. n (e ∙ z) in
     absurd (absent-at c l m (absent-after c l m (and-eq-true-iff (eqb c 0 || absent c l) (distinct l) .0 d .0)) i (sym e))

@@ -2,6 +2,7 @@ pub mod Held
 pub mod Tests
 pub mod LayoutFacts
 pub mod Refusals
+pub mod Computing
 pub mod Examples
 pub mod Steps
 pub mod Late

@@ -12,12 +12,16 @@ use Rattle.choice.specs.Choice.{if_then_else_}
 use Rattle.rules.specs.Numbers.{largest-stamp, B, FJ}
 use Rattle.rules.specs.Pairs.{Lent, is-pair, lent-good, GN, alone}
 use Rattle.rules.specs.States.{at, lag, later, deadline, fresh, keys-below, stamps-by, in-order, pair-lent, well-formed}
-use Rattle.rules.specs.OneEvent.{Done, _leaving_, same-thumb, same-key, second-character-takes-thumb, second-thumb-takes-character, short-overlap, pair-stays, short-pair, short-of, late, third, third-thumb, act, due-by, and-then, settle-in, settle, one-event}
+use Rattle.rules.specs.OneEvent.{Done, _leaving_, same-thumb, same-key, second-character-takes-thumb, second-thumb-takes-character}
+use Rattle.rules.specs.OneEvent.{short-overlap, pair-stays, short-pair, short-of, late, third, third-thumb}
+use Rattle.rules.specs.OneEvent.{act, due-by, and-then, settle-in, settle, one-event}
 use Rattle.rules.specs.ZeroDelay.{shown}
-use Rattle.rules.specs.GivenBack.{input, acts-as, held-after, Verdict, refused, is-new, judge-input, judge, Answer, refusal, acceptance, answer, step-with, step}
+use Rattle.rules.specs.GivenBack.{input, acts-as, held-after, Verdict, refused, is-new, judge-input}
+use Rattle.rules.specs.GivenBack.{judge, Answer, refusal, acceptance, answer, step-with, step}
 use Rattle.rules.specs.Sequences.{after, along, accepted-in, waiting}
 use Rattle.rules.specs.Distance.{distance-to, asking-with, asking}
-use Rattle.rules.specs.MovedClock.{moved-event, moved-events, moved-resting, moved-machine, moved-state, Stays, AllStay, told, told-in, Clock-moved, moved-answer, Machine-moved}
+use Rattle.rules.specs.MovedClock.{moved-event, moved-events, moved-resting, moved-machine, moved-state, Stays}
+use Rattle.rules.specs.MovedClock.{AllStay, told, told-in, Clock-moved, moved-answer, Machine-moved}
 use Rattle.rules.specs.declared.Stamp.{Stamp}
 use Rattle.rules.specs.declared.Key.{Key}
 use Rattle.rules.specs.declared.Thumb.{Thumb}

@@ -7,7 +7,8 @@ use mathlib.Core.Path.{_≡_, refl, sym, _∙_, ap}
 use borrow.Author.Tests.{eqb-true, eq-eqb, le-leb, not-true}
 use lib.Dec.{ltb, eqb}
 use Rattle.rules.specs.OneEvent.{same-key}
-use Rattle.rules.specs.Pairs.{Pair, T-s-least, T-s-most, N-least, N-most, names, is-of, pair-of, is-some, is-pair, in-some-pair, none-twice, is-pair-character, pair-good, each-good, lent-good}
+use Rattle.rules.specs.Pairs.{Pair, T-s-least, T-s-most, N-least, N-most, names, is-of, pair-of, is-some, is-pair}
+use Rattle.rules.specs.Pairs.{in-some-pair, none-twice, is-pair-character, pair-good, each-good, lent-good}
 use Rattle.rules.specs.PairFacts.{turned, Partner, PairFacts, NoPairsGood, TrialsHold}
 use Rattle.rules.specs.declared.Key.{Key}
 use Rattle.choice.proofs.Choices.{either}

@@ -8,7 +8,9 @@ use lib.ListN.{length, length-append, replicate}
 use borrow.Author.Tests.{eqb-true, eqb-false, eq-eqb}
 use Rattle.rules.specs.Pairs.{Lent, is-pair}
 use Rattle.rules.specs.States.{lag, deadline}
-use Rattle.rules.specs.OneEvent.{Done, _leaving_, nothing, together, mark, same-thumb, same-key, second-character-takes-thumb, second-thumb-takes-character, short-overlap, pair-stays, short-pair, short-of, late, third, third-thumb, act, due-by, and-then, one-event}
+use Rattle.rules.specs.OneEvent.{Done, _leaving_, nothing, together, mark, same-thumb, same-key, second-character-takes-thumb}
+use Rattle.rules.specs.OneEvent.{second-thumb-takes-character, short-overlap, pair-stays, short-pair, short-of}
+use Rattle.rules.specs.OneEvent.{late, third, third-thumb, act, due-by, and-then, one-event}
 use Rattle.rules.specs.ZeroDelay.{sign-unless-0, character, sign-of, signs, shown, Sending, backspace, send, take-back, sent}
 use Rattle.rules.specs.Layout.{code-point}
 use Rattle.rules.specs.GivenBack.{acts-as, Answer}

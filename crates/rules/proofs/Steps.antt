@@ -12,7 +12,8 @@ use Rattle.rules.specs.Held.{is-held, hold, release, how-many, held-form
 use Rattle.rules.specs.Pairs.{Lent, lent-good}
 use Rattle.rules.specs.States.{at, is-key, keys-below, at-or-before, stamps-by, in-order, pair-lent, well-formed}
 use Rattle.rules.specs.OneEvent.{one-event}
-use Rattle.rules.specs.GivenBack.{with-character, with-thumb, with-0, input, acts-as, held-after, Verdict, refused, accepted, is-new, too-many, judge, judge-input, Answer, refusal, acceptance, answer, step-with, step}
+use Rattle.rules.specs.GivenBack.{with-character, with-thumb, with-0, input, acts-as, held-after, Verdict, refused, accepted}
+use Rattle.rules.specs.GivenBack.{is-new, too-many, judge, judge-input, Answer, refusal, acceptance, answer, step-with, step}
 use Rattle.rules.specs.Sequences.{Press, press}
 use Rattle.rules.specs.HeldRules.{held-then}
 use Rattle.rules.specs.declared.Stamp.{Stamp}
@@ -70,7 +71,8 @@ module _ (k : Key) where
 
   with-thumb-parses : (n : ℕ) (f : Thumb → Input) → ((P : Thumb) → Parsed n k (f P)) → Allowed n k (with-thumb f k)
   with-thumb-parses n f p =
-      by-test (Allowed n k) (eqb (k .0) 0) (λ _. allowed (p _)) (λ _. by-test (Allowed n k) (eqb (k .0) 1) (λ _. allowed (p _)) (λ _. not-allowed))
+      by-test (Allowed n k) (eqb (k .0) 0) (λ _. allowed (p _))
+      (λ _. by-test (Allowed n k) (eqb (k .0) 1) (λ _. allowed (p _)) (λ _. not-allowed))
 
   with-0-parses : (n : ℕ) (i : Input) → Parsed n k i → Allowed n k (with-0 i k)
   with-0-parses n i p = by-test (Allowed n k) (eqb (k .0) 0) (λ _. allowed p) (λ _. not-allowed)

@@ -10,7 +10,8 @@ use borrow.Author.Tests.{eqb-true, eqb-false}
 use Rattle.rules.specs.Held.{is-held, hold, release}
 use Rattle.rules.specs.Pairs.{Lent, is-pair, lent-good}
 use Rattle.rules.specs.States.{lag, deadline, pair-lent}
-use Rattle.rules.specs.OneEvent.{Done, same-thumb, same-key, second-character-takes-thumb, second-thumb-takes-character, short-overlap, pair-stays, short-pair, short-of, third, third-thumb, act, due-by, settle, one-event}
+use Rattle.rules.specs.OneEvent.{Done, same-thumb, same-key, second-character-takes-thumb, second-thumb-takes-character}
+use Rattle.rules.specs.OneEvent.{short-overlap, pair-stays, short-pair, short-of, third, third-thumb, act, due-by, settle, one-event}
 use Rattle.rules.specs.GivenBack.{held-after}
 use Rattle.rules.specs.Sequences.{Press}
 use Rattle.rules.specs.HeldRules.{AllHeld, not-released}

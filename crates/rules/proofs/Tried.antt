@@ -5,27 +5,23 @@ use Prim.Native.Char.{code}
 use mathlib.Core.Bool.{Bool, true, _&&_, and-eq-true-iff}
 use mathlib.Core.List.{List, [], _∷_, _++_, map}
 use mathlib.Core.Path.{_≡_, refl, sym, _∙_}
-use lib.Count.{onesIn}
 use lib.Dec.{ltb, leb, lit≤}
 use lib.ListN.{length}
 use borrow.Author.Tests.{leb-true, le-ltb}
 use Rattle.choice.specs.Choice.{if_then_else_}
-use Rattle.rules.specs.Numbers.{largest-stamp, in-range, up, A, B, FJ, FL, D, X, W}
-use Rattle.rules.specs.Pairs.{pair-of, in-some-pair, none-twice, each-good, lent-good, no-pairs, alone, longest}
-use Rattle.rules.specs.Layout.{table, code-point}
+use Rattle.rules.specs.Numbers.{largest-stamp, in-range}
+use Rattle.rules.specs.Pairs.{no-pairs}
 use Rattle.rules.specs.LayoutFacts.{key}
-use Rattle.rules.specs.Held.{is-held, hold, release, how-many, held-formed}
-use Rattle.rules.specs.States.{at, fresh, well-formed}
-use Rattle.rules.specs.OneEvent.{mark, same-thumb, same-key, second-character-takes-thumb, second-thumb-takes-character, short-overlap, settle-in, settle, one-event}
-use Rattle.rules.specs.ZeroDelay.{character, sent, sign}
-use Rattle.rules.specs.GivenBack.{input, is-new, judge, step-with, step}
+use Rattle.rules.specs.States.{at, fresh}
+use Rattle.rules.specs.ZeroDelay.{sign}
 use Rattle.rules.specs.Sequences.{press, characters, state, presses, items, line, screen}
 use Rattle.rules.specs.Demand3.{with-event, SameText, TakesNothing}
-use Rattle.rules.specs.Distance.{asking-with, asking}
+use Rattle.rules.specs.Distance.{asking}
 use Rattle.rules.specs.MovedClock.{moved-events, AllStay, Told, all-told, ClockMoved}
 use Rattle.rules.specs.Examples.{usual, with-solo, が, to-wait}
 use Rattle.rules.specs.declared.Resting.the-variants.{S2}
 use Rattle.rules.specs.declared.Event.{Event}
+use Rattle.rules.proofs.Computing.{a-step, a-distance}
 use Rattle.rules.proofs.Demand3.{demand-3}
 use Rattle.rules.proofs.MovedClock.{clock-moved}
 
@@ -65,7 +61,7 @@ record Computed : Type 0 where
   marked-screen : screen no-pairs with-solo marked ≡ code "か" ∷ code "が" ∷ []
 
 computed : Computed
-unfolding e busy calm marked step step-with lent-good none-twice each-good in-some-pair alone pair-of judge is-new input well-formed is-held hold release how-many held-formed onesIn in-range one-event settle settle-in mark same-thumb same-key second-character-takes-thumb second-thumb-takes-character short-overlap sent character code-point table up A B FJ FL D X W longest
+unfolding e busy calm marked a-step
 computed =
     record {
       busy-presses = refl;
@@ -79,34 +75,34 @@ computed =
 
 -- Sentence 1: one press is answered, and one waits.
 tried-1 : characters (items no-pairs usual busy) ≡ key 21 ∷ []
-unfolding e busy calm marked step step-with lent-good none-twice each-good in-some-pair alone pair-of judge is-new input well-formed is-held hold release how-many held-formed onesIn in-range one-event settle settle-in mark same-thumb same-key second-character-takes-thumb second-thumb-takes-character short-overlap sent character code-point table up A B FJ FL D X W longest
+unfolding e busy calm marked a-step
 tried-1 = refl
 
 one-answered : demand-3 no-pairs usual usual-in-range busy .keys-in-order .answered ++ (press (key 24) (at 100) ∷ [])
     ≡ presses no-pairs usual busy
-unfolding e busy calm marked step step-with lent-good none-twice each-good in-some-pair alone pair-of judge is-new input well-formed is-held hold release how-many held-formed onesIn in-range one-event settle settle-in mark same-thumb same-key second-character-takes-thumb second-thumb-takes-character short-overlap sent character code-point table up A B FJ FL D X W longest
+unfolding e busy calm marked a-step
 one-answered = sym (demand-3 no-pairs usual usual-in-range busy .keys-in-order .presses-are)
 
 -- Sentence 2: 24@100 is committed by an event at 100 + W, and W is 200.
 tried-2 : 1 < length (characters (items no-pairs usual (with-event busy (e 6 0 300))))
-unfolding e busy calm marked step step-with lent-good none-twice each-good in-some-pair alone pair-of judge is-new input well-formed is-held hold release how-many held-formed onesIn in-range one-event settle settle-in mark same-thumb same-key second-character-takes-thumb second-thumb-takes-character short-overlap sent character code-point table up A B FJ FL D X W longest
+unfolding e busy calm marked a-step
 tried-2 =
     demand-3 no-pairs usual usual-in-range (with-event busy (e 6 0 300)) .committed-in-time busy [] (e 6 0 300) refl refl
     (press (key 21) (at 0) ∷ []) [] (press (key 24) (at 100)) refl (lit≤ tt)
 
 -- Sentence 3: the two sequences differ in ticks and refused events only.
 tried-3 : SameText no-pairs usual busy calm (at 300)
-unfolding e busy calm marked step step-with lent-good none-twice each-good in-some-pair alone pair-of judge is-new input well-formed is-held hold release how-many held-formed onesIn in-range one-event settle settle-in mark same-thumb same-key second-character-takes-thumb second-thumb-takes-character short-overlap sent character code-point table up A B FJ FL D X W longest
+unfolding e busy calm marked a-step
 tried-3 = demand-3 no-pairs usual usual-in-range busy .ticks-do-not-matter calm (at 300) refl refl refl
 
 -- Sentence 4: a line and a waiting character, neither of them empty.
 tried-4 : screen no-pairs usual busy ≡ line no-pairs usual busy ++ (code "さ" ∷ [])
-unfolding e busy calm marked step step-with lent-good none-twice each-good in-some-pair alone pair-of judge is-new input well-formed is-held hold release how-many held-formed onesIn in-range one-event settle settle-in mark same-thumb same-key second-character-takes-thumb second-thumb-takes-character short-overlap sent character code-point table up A B FJ FL D X W longest
+unfolding e busy calm marked a-step
 tried-4 = demand-3 no-pairs usual usual-in-range busy .screen-is-line
 
 -- Sentence 5: the tick at 100 sends a backspace, a mark and か, behind a line that is not empty.
 tried-5 : TakesNothing no-pairs with-solo marked []
-unfolding e busy calm marked step step-with lent-good none-twice each-good in-some-pair alone pair-of judge is-new input well-formed is-held hold release how-many held-formed onesIn in-range one-event settle settle-in mark same-thumb same-key second-character-takes-thumb second-thumb-takes-character short-overlap sent character code-point table up A B FJ FL D X W longest
+unfolding e busy calm marked a-step
 tried-5 =
     demand-3 no-pairs with-solo solo-in-range (with-event marked (e 6 0 100)) .no-backspace-takes-committed marked [] (e 6 0 100) refl []
     (sign 2 ∷ sign (code "か") ∷ []) refl
@@ -148,7 +144,7 @@ record Moved : Type 0 where
   first-moves : state no-pairs usual (moved-events 1_000 (e 6 0 0 ∷ [])) .last ≡ at 1_000
 
 computed-moved : Moved
-unfolding e busy calm crowd numbers-of asking asking-with step step-with lent-good none-twice each-good in-some-pair alone pair-of judge is-new input well-formed is-held hold release how-many held-formed onesIn in-range one-event settle settle-in mark same-thumb same-key second-character-takes-thumb second-thumb-takes-character short-overlap sent character code-point table up A B FJ FL D X W longest
+unfolding e busy calm crowd numbers-of a-distance
 computed-moved =
     record {
       calm-numbers = refl;

@@ -1,29 +1,25 @@
 -- Each sentence of demand 3, and the moved clock of 8/12, tried where there are pairs (as Tried.antt does without): two letters that
 -- come out as one character, and two that come out one by one.
-use Prim.Native.Nat.{_+_, _<_}
+use Prim.Native.Nat.{_<_}
 use Prim.Native.Char.{code}
 use mathlib.Core.Bool.{true}
 use mathlib.Core.List.{List, [], _∷_, _++_}
 use mathlib.Core.Path.{_≡_, refl, sym, _∙_}
-use lib.Count.{onesIn}
 use lib.Dec.{lit≤}
 use lib.ListN.{length}
-use Rattle.rules.specs.Numbers.{in-range, up, A, B, FJ, FL, D, X, W}
-use Rattle.rules.specs.Pairs.{Lent, names, is-of, pair-of, in-some-pair, none-twice, is-pair-character, pair-good, each-good, lent-good, GN, P, alone, X-pairs, W-pairs, longest}
-use Rattle.rules.specs.Layout.{table, code-point}
+use Rattle.rules.specs.Numbers.{in-range}
+use Rattle.rules.specs.Pairs.{Lent, longest}
 use Rattle.rules.specs.LayoutFacts.{key}
-use Rattle.rules.specs.Held.{is-held, hold, release, how-many, held-formed}
-use Rattle.rules.specs.States.{at, fresh, well-formed}
-use Rattle.rules.specs.OneEvent.{mark, same-thumb, same-key, second-character-takes-thumb, second-thumb-takes-character, short-overlap, pair-stays, short-pair, short-of, settle-in, settle, one-event}
-use Rattle.rules.specs.ZeroDelay.{character, sent, backspace, sign}
-use Rattle.rules.specs.GivenBack.{input, is-new, judge, step-with, step}
+use Rattle.rules.specs.States.{at, fresh}
+use Rattle.rules.specs.ZeroDelay.{backspace, sign}
 use Rattle.rules.specs.Sequences.{press, characters, state, presses, items, line, screen}
 use Rattle.rules.specs.Demand3.{with-event, SameText, TakesNothing}
-use Rattle.rules.specs.Distance.{asking-with, asking}
+use Rattle.rules.specs.Distance.{asking}
 use Rattle.rules.specs.MovedClock.{moved-events, ClockMoved}
-use Rattle.rules.specs.Examples.{an-event, usual, lent-with, two-pairs, to-wait, か, さ, い, ヴ}
+use Rattle.rules.specs.Examples.{an-event, usual, lent-with, two-pairs, to-wait, さ, い, ヴ}
 use Rattle.rules.specs.declared.Resting.the-variants.{S8}
 use Rattle.rules.specs.declared.Event.{Event}
+use Rattle.rules.proofs.Computing.{a-step, a-distance}
 use Rattle.rules.proofs.Demand3.{demand-3}
 use Rattle.rules.proofs.MovedClock.{clock-moved}
 use Rattle.rules.proofs.Tried.{all-stay}
@@ -76,7 +72,7 @@ record Computed : Type 0 where
   bad-screen : screen bad usual busy ≡ []
 
 computed : Computed
-unfolding step step-with lent-good none-twice each-good pair-good is-pair-character names is-of pair-of in-some-pair alone judge is-new input well-formed is-held hold release how-many held-formed onesIn in-range one-event settle settle-in mark same-thumb same-key second-character-takes-thumb second-thumb-takes-character short-overlap pair-stays short-pair short-of sent character code-point table up A B FJ FL D X W GN P X-pairs W-pairs longest
+unfolding a-step
 computed =
     record {
       busy-presses = refl;
@@ -94,41 +90,41 @@ computed =
 
 -- Sentence 1: one item answers two presses, and two wait.
 tried-1 : characters (items lent usual busy) ≡ key 21 ∷ key 24 ∷ []
-unfolding step step-with lent-good none-twice each-good pair-good is-pair-character names is-of pair-of in-some-pair alone judge is-new input well-formed is-held hold release how-many held-formed onesIn in-range one-event settle settle-in mark same-thumb same-key second-character-takes-thumb second-thumb-takes-character short-overlap pair-stays short-pair short-of sent character code-point table up A B FJ FL D X W GN P X-pairs W-pairs longest
+unfolding a-step
 tried-1 = refl
 
 two-answered : demand-3 lent usual usual-in-range busy .keys-in-order .answered
     ++ (press (key 24) (at 200) ∷ press (key 18) (at 220) ∷ [])
     ≡ presses lent usual busy
-unfolding step step-with lent-good none-twice each-good pair-good is-pair-character names is-of pair-of in-some-pair alone judge is-new input well-formed is-held hold release how-many held-formed onesIn in-range one-event settle settle-in mark same-thumb same-key second-character-takes-thumb second-thumb-takes-character short-overlap pair-stays short-pair short-of sent character code-point table up A B FJ FL D X W GN P X-pairs W-pairs longest
+unfolding a-step
 two-answered = sym (demand-3 lent usual usual-in-range busy .keys-in-order .presses-are)
 
 -- Sentence 2: 24@200 is committed by an event at 500.
 tried-2 : 2 < length (characters (items lent usual parted))
-unfolding step step-with lent-good none-twice each-good pair-good is-pair-character names is-of pair-of in-some-pair alone judge is-new input well-formed is-held hold release how-many held-formed onesIn in-range one-event settle settle-in mark same-thumb same-key second-character-takes-thumb second-thumb-takes-character short-overlap pair-stays short-pair short-of sent character code-point table up A B FJ FL D X W GN P X-pairs W-pairs longest
+unfolding a-step
 tried-2 =
     demand-3 lent usual usual-in-range parted .committed-in-time busy [] (an-event 6 0 500) refl refl
     (press (key 21) (at 0) ∷ press (key 24) (at 30) ∷ []) (press (key 18) (at 220) ∷ []) (press (key 24) (at 200)) refl (lit≤ tt)
 
 -- Sentence 3: the two sequences differ in ticks and a refused event only.
 tried-3 : SameText lent usual busy calm (at 500)
-unfolding step step-with lent-good none-twice each-good pair-good is-pair-character names is-of pair-of in-some-pair alone judge is-new input well-formed is-held hold release how-many held-formed onesIn in-range one-event settle settle-in mark same-thumb same-key second-character-takes-thumb second-thumb-takes-character short-overlap pair-stays short-pair short-of sent character code-point table up A B FJ FL D X W GN P X-pairs W-pairs longest
+unfolding a-step
 tried-3 = demand-3 lent usual usual-in-range busy .ticks-do-not-matter calm (at 500) refl refl refl
 
 -- Sentence 4: a line, and two letters that wait.
 tried-4 : screen lent usual busy ≡ line lent usual busy ++ (code "さ" ∷ code "い" ∷ [])
-unfolding step step-with lent-good none-twice each-good pair-good is-pair-character names is-of pair-of in-some-pair alone judge is-new input well-formed is-held hold release how-many held-formed onesIn in-range one-event settle settle-in mark same-thumb same-key second-character-takes-thumb second-thumb-takes-character short-overlap pair-stays short-pair short-of sent character code-point table up A B FJ FL D X W GN P X-pairs W-pairs longest
+unfolding a-step
 tried-4 = demand-3 lent usual usual-in-range busy .screen-is-line
 
 -- Sentence 5: 24 up sends two backspaces and ヴ, behind a line that is not empty; the first backspace, and the second.
 first-takes : TakesNothing lent usual shows-two []
-unfolding step step-with lent-good none-twice each-good pair-good is-pair-character names is-of pair-of in-some-pair alone judge is-new input well-formed is-held hold release how-many held-formed onesIn in-range one-event settle settle-in mark same-thumb same-key second-character-takes-thumb second-thumb-takes-character short-overlap pair-stays short-pair short-of sent character code-point table up A B FJ FL D X W GN P X-pairs W-pairs longest
+unfolding a-step
 first-takes =
     demand-3 lent usual usual-in-range (with-event shows-two (an-event 2 24 60)) .no-backspace-takes-committed
     shows-two [] (an-event 2 24 60) refl [] (backspace ∷ sign (code "ヴ") ∷ []) refl
 
 second-takes : TakesNothing lent usual shows-two (backspace ∷ [])
-unfolding step step-with lent-good none-twice each-good pair-good is-pair-character names is-of pair-of in-some-pair alone judge is-new input well-formed is-held hold release how-many held-formed onesIn in-range one-event settle settle-in mark same-thumb same-key second-character-takes-thumb second-thumb-takes-character short-overlap pair-stays short-pair short-of sent character code-point table up A B FJ FL D X W GN P X-pairs W-pairs longest
+unfolding a-step
 second-takes =
     demand-3 lent usual usual-in-range (with-event shows-two (an-event 2 24 60)) .no-backspace-takes-committed
     shows-two [] (an-event 2 24 60) refl (backspace ∷ []) (sign (code "ヴ") ∷ []) refl
@@ -140,7 +136,7 @@ record Moved : Type 0 where
   busy-asked : asking lent (state lent usual busy) (at 235) ≡ to-wait 5
 
 computed-moved : Moved
-unfolding asking asking-with step step-with lent-good none-twice each-good pair-good is-pair-character names is-of pair-of in-some-pair alone judge is-new input well-formed is-held hold release how-many held-formed onesIn in-range one-event settle settle-in mark same-thumb same-key second-character-takes-thumb second-thumb-takes-character short-overlap pair-stays short-pair short-of sent character code-point table up A B FJ FL D X W GN P X-pairs W-pairs longest
+unfolding a-distance
 computed-moved = record { busy-items = refl; busy-rests = refl; busy-asked = refl }
 
 busy-moved : ClockMoved lent 1_000 usual busy

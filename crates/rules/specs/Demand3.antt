@@ -8,7 +8,8 @@ use Rattle.rules.specs.Numbers.{in-range}
 use Rattle.rules.specs.Pairs.{Lent, longest}
 use Rattle.rules.specs.ZeroDelay.{shown, Sending, backspace}
 use Rattle.rules.specs.GivenBack.{step}
-use Rattle.rules.specs.Sequences.{Press, keys-of, characters, waiting, typed, signs-among, state, presses, accepted-key-events, items, Committed, line, screen}
+use Rattle.rules.specs.Sequences.{Press, keys-of, characters, waiting, typed, signs-among, state}
+use Rattle.rules.specs.Sequences.{presses, accepted-key-events, items, Committed, line, screen}
 use Rattle.rules.specs.declared.Stamp.{Stamp}
 use Rattle.rules.specs.declared.Settings.{Settings}
 use Rattle.rules.specs.declared.Event.{Event}

@@ -9,7 +9,8 @@ use mathlib.Core.Path.{_≡_}
 use lib.ListN.{length, take}
 use Rattle.rules.specs.Numbers.{in-range, W}
 use Rattle.rules.specs.LayoutFacts.{key}
-use Rattle.rules.specs.Pairs.{Pair, Lent, T-s-least, T-s-most, N-least, N-most, is-of, pair-of, is-pair, in-some-pair, none-twice, is-pair-character, each-good, lent-good, W-pairs, longest}
+use Rattle.rules.specs.Pairs.{Pair, Lent, T-s-least, T-s-most, N-least, N-most, is-of, pair-of, is-pair, in-some-pair}
+use Rattle.rules.specs.Pairs.{none-twice, is-pair-character, each-good, lent-good, W-pairs, longest}
 use Rattle.rules.specs.declared.Key.{Key}
 use Rattle.rules.specs.declared.Settings.{Settings}
 

@@ -1,15 +1,15 @@
 // The whole face for a C host, as one library: libtrabeculon.a. Each function is that of `host`, `keyboard` or `keyboard_row` under
 // the same name, with its contract.
-use machine_numbers::MachineNumbers;
 use host::Answer;
 use host::Drill;
-use host::ReaderNumbers;
+use host::MendAnswer;
 use host::PieceRead;
+use host::ReaderNumbers;
 use keyboard::DistanceAnswer;
 use keyboard::OpenAnswer;
 use keyboard::StepAnswer;
 use keyboard_row::RowStepAnswer;
-use host::MendAnswer;
+use machine_numbers::MachineNumbers;
 use rules::Stamp;
 ghost use Prim.Native.Nat.{_/_};
 ghost use mathlib.Core.Path.{_≡_};
@@ -71,7 +71,8 @@ pub extern "C" fn trabeculon_reader_piece(
     piece: &[u8],
     out: &mut [u8],
 ) -> PieceRead
-    ensures { λ r. ⌜ GivesPiece reader (now (list .entry)) (now (piece .entry)) (now (out .entry)) (accepted (now (list .entry)) reader) r (now (list .exit)) (now (out .exit)) ⌝ }
+    ensures { λ r. ⌜ GivesPiece reader (now (list .entry)) (now (piece .entry)) (now (out .entry))
+        (accepted (now (list .entry)) reader) r (now (list .exit)) (now (out .exit)) ⌝ }
 {
     host::trabeculon_reader_piece(reader, list, piece, out)
 }

@@ -1,6 +1,6 @@
 // Arithmetic of stamps and lags. Stamps, lags and key numbers are unwrapped here. Elsewhere they are unwrapped only where they become
-// something else: a key the index of a row of the layout (`layout`), a machine the numbers of a C host (`machine_numbers`), a key and a stamp
-// the bytes of a record (`writer`), the longest wait a number that is printed (`worked_examples`).
+// something else: a key the index of a row of the layout (`layout`), a machine the numbers of a C host (`machine_numbers`), a key and
+// a stamp the bytes of a record (`writer`), the longest wait a number that is printed (`worked_examples`).
 // Every function takes any numbers: a sum that would not fit stops at the largest number, a lag that is multiplied counts as
 // the largest stamp at most, and a stamp in a difference as the largest signed number at most. None of these bounds is met in
 // a machine that is well formed, at a stamp that it accepts.

@@ -54,5 +54,5 @@ in-range-spec =
       le-leb _ percent-most (c .before .before .before .before .before .if4 .left),
       le-leb percent-least _ (c .before .before .before .if5 .left),
       le-leb _ percent-most (c .before .if6 .left),
-      le-leb 0 (c .before .before .before .before .before .before .before .before .before .before .before .before .before .args .«self» .solo) zero-le,
+      le-leb 0 _ zero-le,
     )))
