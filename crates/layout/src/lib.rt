@@ -96,8 +96,8 @@ fn mark_word(thumb: Thumb) -> u16
     ensures { λ r. ⌜ r ≡ mark-word thumb ⌝ }
 {
     match thumb {
-        Thumb::Left => 1,
-        Thumb::Right => 2,
+        Thumb::Left => 1u16,
+        Thumb::Right => 2u16,
     }
 }
 
