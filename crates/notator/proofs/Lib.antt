@@ -6,3 +6,4 @@ pub mod Sizes
 pub mod OneReading
 pub mod Answers
 pub mod RoundTrip
+pub mod Examples

@@ -3,3 +3,4 @@ pub mod Words
 pub mod Notates
 pub mod Room
 pub mod RoundTrip
+pub mod Examples

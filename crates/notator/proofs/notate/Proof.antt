@@ -12,6 +12,6 @@ notate-spec =
     (λ c. search needs)
     (λ c. search needs)
     (λ c. (no-room _ _ (c .before .if1 .left) (c .if2 .taken), tt))
-    (λ c κs. search needs)
+    (λ c κs. (c .before .before .if1 .left, c .before .if2 .left))
     (λ c. c .before .before .put-log .kept .1 .0)
     (λ c. c .before .before .put-log .ensures))
