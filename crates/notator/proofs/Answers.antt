@@ -47,8 +47,7 @@ module _ (l run : List ℕ) (bytes : Bytes l) (short : length l ≤ longest-log)
   pub is-notated : Notates l run (Text k number offset) after × (k ≤ length run)
   is-notated =
       let all = (records and-then refusal) .fits (omega (arith, room l bytes, ap length text-is)) in
-      let s : Stored 0 (notated l) run k after = rw text-is at all in
-      (
+      let s : Stored 0 (notated l) run k after = rw text-is at all in (
         record {
           answered = rw (le-leb (length l) longest-log short, le-leb (room-for l) (length run) has-room, s .behind, zero-add, n-is, o-is);
           run-holds = rw (le-leb (length l) longest-log short, le-leb (room-for l) (length run) has-room) (s .stored ∙ rw zero-add);

@@ -28,6 +28,7 @@ pub const LONGEST_LOG: usize = 1048576;
 
 // A run of so many bytes for each of the log's, and so many besides, has room for its text.
 pub const ROOM_PER_BYTE: usize = 4;
+
 pub const ROOM_BESIDES: usize = 128;
 
 // A log, notated at the front of a run.

@@ -23,7 +23,11 @@ fn put_meaning(out: &mut [u8], at: usize, number: u32) -> usize
         return put_bytes(out, at, b"log empty, or header or body cut");
     }
     if number == 7 {
-        return put_bytes(out, at, b"tag unknown, length wrong, or record out of place");
+        return put_bytes(
+            out,
+            at,
+            b"tag unknown, length wrong, or record out of place",
+        );
     }
     if number == 11 {
         return put_bytes(out, at, b"more than six keys held");

@@ -6,7 +6,9 @@ use Rattle.notate.proofs.print_log.Tie as tie
 
 print-text-requires : tie.Need-print-text-requires
 print-text-requires c κs =
-    rw (c .before .before .before .notate .kept .1 .0) (has-text _ _ _ _ (c .before .before .before .before .before .before .before .pre .0) (c .before .before .before .before .before .before .before .pre .1) (c .before .before .before .notate .ensures .0) (c .before .before .before .notate .ensures .1))
+    let made = c .before .before .before .notate in
+    let room = c .before .before .before .before .before .before .before .pre in
+    rw (made .kept .1 .0) (has-text _ _ _ _ (room .0) (room .1) (made .ensures .0) (made .ensures .1))
 
 pub print-log-spec : {M : Type 1} → statement M
 print-log-spec =

@@ -9,16 +9,29 @@ use Rattle.notate.proofs.run.Tie as tie
 
 array-share-prefix-log : tie.Need-array-share-prefix-log
 array-share-prefix-log c =
-    omega (arith, rw (c .before .n .given .1) at (c .before .before .before .before .read .ensures), c .before .before .before .before .read .kept .0)
+    let told = c .before in
+    let read = told .before .before .before .read in
+    omega (arith, rw (told .n .given .1) at (read .ensures), read .kept .0)
 
 slice-aggregate-print-log : tie.Need-slice-aggregate-print-log
 slice-aggregate-print-log c =
-    sym (length-take-le _ _ (omega (arith, rw (c .before .before .n .given .1) at (c .before .before .before .before .before .read .ensures), c .before .before .before .before .before .read .kept .0)))
+    let told = c .before .before in
+    let read = told .before .before .before .read in
+    sym (length-take-le _ _ (omega (arith, rw (told .n .given .1) at (read .ensures), read .kept .0)))
 
 print-log-requires : tie.Need-print-log-requires
 print-log-requires c κs =
-    let n = c .before .before .before .n .given .0 .0 in
-    (omega (arith, length-take n (c .before .before .before .before .before .before .read .last .0), c .before .before .before .before .before .before .read .kept .0, c .before .before .before .before .before .before .before .before .before .with-log .ensures), omega (arith, c .before .before .before .before .before .before .before .before .with-text .ensures))
+    let told = c .before .before .before in
+    let bytes = told .before .before .before in
+    let buffer = bytes .before .before in (
+      omega (
+        arith,
+        length-take (told .n .given .0 .0) (bytes .read .last .0),
+        bytes .read .kept .0,
+        buffer .before .with-log .ensures,
+      ),
+      omega (arith, buffer .with-text .ensures),
+    )
 
 pub run-spec : {M : Type 1} → statement M
 run-spec =

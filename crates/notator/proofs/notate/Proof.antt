@@ -1,6 +1,6 @@
 -- `notator::notate` meets its contract.
-use Rattle.notator.proofs.Answers.{too-long, no-room}
 use borrow.Author.Needs.{needs}
+use Rattle.notator.proofs.Answers.{too-long, no-room}
 use Rattle.notator.proofs.notate.Statement.{statement}
 use Rattle.notator.proofs.notate.Tie as tie
 

@@ -1,7 +1,7 @@
 -- `notator::numbers::put_before` meets its contract.
+use borrow.Author.Needs.{needs}
 use mathlib.Core.Path.{_∙_}
 use Rattle.notator.proofs.Adding.{of-put, _and-then_}
-use borrow.Author.Needs.{needs}
 use Rattle.notator.proofs.numbers.put_before.Statement.{statement}
 use Rattle.notator.proofs.numbers.put_before.Tie as tie
 
@@ -12,5 +12,7 @@ put-before-spec =
     (λ c κs. search needs)
     (λ c κs. search needs)
     (λ c. c .before .before .put-bytes .kept .0 ∙ c .before .before .before .before .before .before .put-number .kept .0)
-    (λ c. of-put (c .before .before .before .before .before .before .put-number .kept .0) (c .before .before .before .before .before .before .put-number .ensures .0)
-    and-then of-put (c .before .before .put-bytes .kept .0) (c .before .before .put-bytes .ensures)))
+    (λ c.
+    let number = c .before .before .before .before .before .before .put-number in
+    let signs = c .before .before .put-bytes in
+    of-put (number .kept .0) (number .ensures .0) and-then of-put (signs .kept .0) (signs .ensures)))

@@ -1,6 +1,6 @@
 -- `notator::numbers::put_code_point` meets its contract.
-use Rattle.notator.proofs.Lines.{code-point-put}
 use borrow.Author.Needs.{needs}
+use Rattle.notator.proofs.Lines.{code-point-put}
 use Rattle.notator.proofs.numbers.put_code_point.Statement.{statement}
 use Rattle.notator.proofs.numbers.put_code_point.Tie as tie
 
@@ -15,5 +15,11 @@ put-code-point-spec =
     (λ c. search needs)
     (λ c κs. search needs)
     (λ c. c .before .before .put-bytes .kept .0)
-    (λ c. code-point-put _ _ _ _ _ _ _ _ _ (c .before .before .before .before .before .before .before .before .letter .ensures) (c .before .before .before .before .before .before .before .letter2 .ensures) (c .before .before .before .before .before .before .letter3 .ensures) (c .before .before .before .before .before .letter4 .ensures)
-    (c .before .before .put-bytes .kept .0) (c .before .before .put-bytes .ensures)))
+    (λ c.
+    let put = c .before .before .put-bytes in
+    let fourth = c .before .before .before .before .before in
+    let third = fourth .before in
+    let second = third .before in
+    let first = second .before in
+    code-point-put _ _ _ _ _ _ _ _ _ (first .letter .ensures) (second .letter2 .ensures) (third .letter3 .ensures)
+    (fourth .letter4 .ensures) (put .kept .0) (put .ensures)))

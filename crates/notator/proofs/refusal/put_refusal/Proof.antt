@@ -1,8 +1,8 @@
 -- `notator::refusal::put_refusal` meets its contract: `begun`, `told`, `signs` and `meant` are the places behind its parts.
+use borrow.Author.Needs.{needs}
 use mathlib.Core.Path.{_∙_}
 use Rattle.notator.proofs.Adding.{of-put, _and-then_, as-text, nothing-added}
 use Rattle.notator.proofs.Lines.{refused-line, no-line}
-use borrow.Author.Needs.{needs}
 use Rattle.notator.proofs.refusal.put_refusal.Statement.{statement}
 use Rattle.notator.proofs.refusal.put_refusal.Tie as tie
 
