@@ -125,8 +125,8 @@ same-below : (c d : log.Console) → c .row ≡ d .row → c .seats ≡ d .seats
 same-below c d r s w zero = refl
 same-below c d r s w (suc k) = rw (same-below c d r s w k, r, s, w)
 
-same-lines : (c d : log.Console) → c .row ≡ d .row → c .seats ≡ d .seats → c .words ≡ d .words → number-of (c .refusal) ≡ number-of (d .refusal)
-    → c .offset ≡ d .offset → console-lines c ≡ console-lines d
+same-lines : (c d : log.Console) → c .row ≡ d .row → c .seats ≡ d .seats → c .words ≡ d .words
+    → number-of (c .refusal) ≡ number-of (d .refusal) → c .offset ≡ d .offset → console-lines c ≡ console-lines d
 unfolding console-lines
 same-lines c d r s w n o = rw (same-below c d r s w 16, n, o)
 
@@ -143,6 +143,13 @@ filled-fits new run after e h =
 filled-front : (n : ℕ) (new run after : List ℕ) → n ≡ length new → after ≡ filled new run → take n after ≡ new
 filled-front n new run after e f = rw (e, f) (take-append-seam new (drop (length new) run))
 
+-- What `put_log` needs of a log that was read: there is room for the words, and their lines are what is shown.
+pub record Told-lines (l : List ℕ) (c : Console) (boards words : List ℕ) : Type 0 where
+  pub few : c .words ≤ word-room
+  pub boards-fit : c .words ≤ length boards
+  pub words-fit : c .words ≤ length words
+  pub lines : console-lines (told-by c (take (c .words) boards) (take (c .words) words)) ≡ shown l
+
 module _ (l boards words : List ℕ) (c : Console) (boards-after words-after : List ℕ)
     (b : word-room ≡ length boards) (w : word-room ≡ length words)
     (kept-boards : length boards-after ≡ length boards) (kept-words : length words-after ≡ length words)
@@ -150,7 +157,7 @@ module _ (l boards words : List ℕ) (c : Console) (boards-after words-after : L
   abbrev ws : List Word
   ws = read (room-of boards words) l .words
 
-  pub count-few : c .words ≤ word-room
+  count-few : c .words ≤ word-room
   count-few =
       omega (
         arith,
@@ -158,12 +165,6 @@ module _ (l boards words : List ℕ) (c : Console) (boards-after words-after : L
         length-map ws (λ (v : Word). v .board),
         filled-fits (boards-of ws) boards boards-after (h .boards-are) kept-boards,
       )
-
-  pub boards-few : c .words ≤ length boards-after
-  boards-few = omega (arith, count-few)
-
-  pub words-few : c .words ≤ length words-after
-  words-few = omega (arith, count-few)
 
   boards-front : take (c .words) boards-after ≡ boards-of ws
   boards-front =
@@ -176,12 +177,16 @@ module _ (l boards words : List ℕ) (c : Console) (boards-after words-after : L
   room-is : room-of boards words ≡ word-room
   room-is = rw (← b, ← w)
 
-  pub lines-are : console-lines (told-by c (take (c .words) boards-after) (take (c .words) words-after)) ≡ shown l
+  lines-are : console-lines (told-by c (take (c .words) boards-after) (take (c .words) words-after)) ≡ shown l
   lines-are =
       rw (boards-front, words-front)
       (same-lines (told-by c (boards-of ws) (words-of ws)) (read (room-of boards words) l) (h .row-is) (h .seats-are) (beside-own ws)
       (number-told (c .number) ∙ h .number-is) (h .offset-is)
       ∙ ap (λ (n : ℕ). console-lines (read n l)) room-is)
+
+  pub told-lines : Told-lines l c boards-after words-after
+  told-lines =
+      record { few = count-few; boards-fit = omega (arith, count-few); words-fit = omega (arith, count-few); lines = lines-are }
 
 -- The contract of `show`.
 

@@ -14,8 +14,8 @@ use Rattle.rules.specs.Held.{is-held, hold, release, how-many, held-formed}
 use Rattle.rules.specs.Pairs.{names, is-of, pair-of, none-twice, is-pair-character, pair-good, each-good, in-some-pair, lent-good}
 use Rattle.rules.specs.Pairs.{GN, P, alone}
 use Rattle.rules.specs.States.{well-formed, opening}
-use Rattle.rules.specs.OneEvent.{mark, same-thumb, same-key, second-character-takes-thumb}
-use Rattle.rules.specs.OneEvent.{second-thumb-takes-character, short-overlap, pair-stays, short-pair, short-of, settle-in, settle, one-event}
+use Rattle.rules.specs.OneEvent.{mark, same-thumb, same-key, second-character-takes-thumb, second-thumb-takes-character}
+use Rattle.rules.specs.OneEvent.{short-overlap, pair-stays, short-pair, short-of, settle-in, settle, one-event}
 use Rattle.rules.specs.ZeroDelay.{character, sent}
 use Rattle.rules.specs.GivenBack.{input, is-new, judge, step-with, step}
 use Rattle.row.specs.Row.{keyboard, step-at}
@@ -65,5 +65,10 @@ own-lines l k short below =
     by s h = rw (h, own .same-line)
 
 pub shown-examples : ShownExamples
-unfolding in-range up A B FJ FL table code-point is-held hold release how-many held-formed onesIn well-formed opening mark same-thumb same-key second-character-takes-thumb second-thumb-takes-character short-overlap pair-stays short-pair short-of settle settle-in in-some-pair GN P alone one-event character sent input is-new judge step step-with stated is-settings settings is-event event is-list list lent-good none-twice each-good pair-good is-pair-character pair-of is-of names walk keyboard step-at names-keyboard inner-settings inner-event at-closed at-open at-board in-front behind-front by-record read-record read utf8 sign text decimal status label first-line second-line refusal-line console-lines
+unfolding in-range up A B FJ FL table code-point is-held hold release how-many held-formed onesIn well-formed opening mark same-thumb
+    same-key second-character-takes-thumb second-thumb-takes-character short-overlap pair-stays short-pair short-of settle settle-in
+    in-some-pair GN P alone one-event character sent input is-new judge step step-with stated is-settings settings is-event event
+    is-list list lent-good none-twice each-good pair-good is-pair-character pair-of is-of names walk keyboard step-at names-keyboard
+    inner-settings inner-event at-closed at-open at-board in-front behind-front by-record read-record read utf8 sign text decimal status
+    label first-line second-line refusal-line console-lines
 shown-examples = record { two-keyboards = refl; whole-log = refl }

@@ -73,7 +73,8 @@ fn put_word(out: &mut [u8], at: usize, board: usize, named: usize, word: u16) ->
 fn put_words(out: &mut [u8], at: usize, board: usize, boards: &[u8], words: &[u16]) -> usize
     requires { ⌜ length (now boards) ≡ length (now words) ⌝ }
     requires { ⌜ at + size board (now boards) (now words) ≤ length (now out) ⌝ }
-    ensures { λ r. ⌜ Stored at (texts.text (line board (now (boards .entry)) (now (words .entry)))) (now (out .entry)) r (now (out .exit)) ⌝ }
+    ensures { λ r. ⌜ Stored at (texts.text (line board (now (boards .entry)) (now (words .entry))))
+        (now (out .entry)) r (now (out .exit)) ⌝ }
 {
     let mut next = at;
     let mut i = 0;
@@ -87,7 +88,8 @@ fn put_words(out: &mut [u8], at: usize, board: usize, boards: &[u8], words: &[u1
 fn put_first(out: &mut [u8], at: usize, board: usize, boards: &[u8], words: &[u16]) -> usize
     requires { ⌜ length (now boards) ≡ length (now words) ⌝ }
     requires { ⌜ at + 23 + size board (now boards) (now words) ≤ length (now out) ⌝ }
-    ensures { λ r. ⌜ Stored at (first-line board (line board (now (boards .entry)) (now (words .entry)))) (now (out .entry)) r (now (out .exit)) ⌝ }
+    ensures { λ r. ⌜ Stored at (first-line board (line board (now (boards .entry)) (now (words .entry))))
+        (now (out .entry)) r (now (out .exit)) ⌝ }
     ensures { λ r. ⌜ r ≤ at + 23 + size board (now (boards .entry)) (now (words .entry)) ⌝ }
 {
     let first = put_label(out, at, board);
@@ -124,7 +126,8 @@ fn put_lines(
 ) -> usize
     requires { ⌜ length (now boards) ≡ length (now words) ⌝ }
     requires { ⌜ at + 98 + size board (now boards) (now words) ≤ length (now out) ⌝ }
-    ensures { λ r. ⌜ Stored at (two-lines board (line board (now (boards .entry)) (now (words .entry))) number waiting offset) (now (out .entry)) r (now (out .exit)) ⌝ }
+    ensures { λ r. ⌜ Stored at (two-lines board (line board (now (boards .entry)) (now (words .entry))) number waiting offset)
+        (now (out .entry)) r (now (out .exit)) ⌝ }
     ensures { λ r. ⌜ r ≤ at + 98 + size board (now (boards .entry)) (now (words .entry)) ⌝ }
 {
     let first = put_first(out, at, board, boards, words);
@@ -143,7 +146,8 @@ fn put_stage(
 ) -> usize
     requires { ⌜ length (now boards) ≡ length (now words) ⌝ }
     requires { ⌜ at + 98 + size board (now boards) (now words) ≤ length (now out) ⌝ }
-    ensures { λ r. ⌜ Stored at (lines-of board (line board (now (boards .entry)) (now (words .entry))) waiting stage) (now (out .entry)) r (now (out .exit)) ⌝ }
+    ensures { λ r. ⌜ Stored at (lines-of board (line board (now (boards .entry)) (now (words .entry))) waiting stage)
+        (now (out .entry)) r (now (out .exit)) ⌝ }
     ensures { λ r. ⌜ r ≤ at + 98 + size board (now (boards .entry)) (now (words .entry)) ⌝ }
 {
     match stage {
@@ -187,7 +191,8 @@ fn put_board(
     requires { ⌜ board < 16 ⌝ }
     requires { ⌜ length (now boards) ≡ length (now words) ⌝ }
     requires { ⌜ at + 98 + size board (now boards) (now words) ≤ length (now out) ⌝ }
-    ensures { λ r. ⌜ Stored at (board-lines (told-by c (now (boards .entry)) (now (words .entry))) board) (now (out .entry)) r (now (out .exit)) ⌝ }
+    ensures { λ r. ⌜ Stored at (board-lines (told-by c (now (boards .entry)) (now (words .entry))) board)
+        (now (out .entry)) r (now (out .exit)) ⌝ }
     ensures { λ r. ⌜ r ≤ at + 98 + size board (now (boards .entry)) (now (words .entry)) ⌝ }
 {
     let stage = stage_at(c, board);
@@ -199,7 +204,8 @@ fn put_board(
 fn put_boards(out: &mut [u8], c: Console, boards: &[u8], words: &[u16]) -> usize
     requires { ⌜ length (now boards) ≡ length (now words) ⌝ }
     requires { ⌜ 1568 + 3 * length (now words) ≤ length (now out) ⌝ }
-    ensures { λ r. ⌜ Stored 0 (lines-below (told-by c (now (boards .entry)) (now (words .entry))) 16) (now (out .entry)) r (now (out .exit)) ⌝ }
+    ensures { λ r. ⌜ Stored 0 (lines-below (told-by c (now (boards .entry)) (now (words .entry))) 16)
+        (now (out .entry)) r (now (out .exit)) ⌝ }
     ensures { λ r. ⌜ r ≤ 1568 + 3 * length (now (words .entry)) ⌝ }
 {
     let mut at = 0;
@@ -227,7 +233,8 @@ fn put_refusal(out: &mut [u8], at: usize, number: u32, offset: usize) -> usize
 fn put_console(out: &mut [u8], c: Console, boards: &[u8], words: &[u16]) -> usize
     requires { ⌜ length (now boards) ≡ length (now words) ⌝ }
     requires { ⌜ 1621 + 3 * length (now words) ≤ length (now out) ⌝ }
-    ensures { λ r. ⌜ Stored 0 (console-lines (told-by c (now (boards .entry)) (now (words .entry)))) (now (out .entry)) r (now (out .exit)) ⌝ }
+    ensures { λ r. ⌜ Stored 0 (console-lines (told-by c (now (boards .entry)) (now (words .entry))))
+        (now (out .entry)) r (now (out .exit)) ⌝ }
     ensures { λ r. ⌜ r ≤ 1621 + 3 * length (now (words .entry)) ⌝ }
 {
     let first = put_boards(out, c, boards, words);

@@ -137,5 +137,6 @@ module _ (s : Settings) (text run : List ℕ) (n : ℕ) (sized : n ≡ line-size
     rw (a .answered) (within-room s line (length run)),
   )
 
-  pub damage-drills : (at : ℕ) → decoded (take n text) ≡ damaged at → Drills s text run (answers.Damaged at) run × Within (length run) (answers.Damaged at)
+  pub damage-drills : (at : ℕ) → decoded (take n text) ≡ damaged at
+      → Drills s text run (answers.Damaged at) run × Within (length run) (answers.Damaged at)
   damage-drills at e = (record { answered = rw (← sized, e); left = rw (← sized, e) }, tt)

@@ -22,7 +22,8 @@ use Rattle.decode.specs.Decoding.{Decoding, words, damaged, followed-by, beginn
 use Rattle.decode.specs.declared.sequence.Sequence.{Sequence}
 use Rattle.decode.specs.declared.sequence.Sequence.the-variants.{Damaged, Word}
 use Rattle.decode.proofs.Fronts.{follow}
-use Rattle.writer.specs.Drills.{settings-record, event-record, event-records, strokes, drill-stamp, line-events, drill, Refused, check-character, first-of, first-refused, check-line, writing}
+use Rattle.writer.specs.Drills.{settings-record, event-record, event-records, strokes, drill-stamp, line-events, drill}
+use Rattle.writer.specs.Drills.{Refused, check-character, first-of, first-refused, check-line, writing}
 use Rattle.drill.specs.Texts.{longest-text, line-size, line-of, told, answer-of, Drills, Within}
 use Rattle.drill.specs.Room.{log-room, Room-suffices}
 use Rattle.drill.specs.Room as answered
@@ -126,7 +127,8 @@ front-long s =
 
 -- so many bytes of a text belong to a sequence before it, and each of its words has three more
 module _ (at b : ℕ) (s : List ℕ)
-    (less : (more : ℕ) (us : List ℕ) → decoded-from (at + 1) more s ≡ words us → Wide us → more ≤ length s → 3 * length us + more ≤ length s)
+    (less : (more : ℕ) (us : List ℕ) → decoded-from (at + 1) more s ≡ words us → Wide us → more ≤ length s
+    → 3 * length us + more ≤ length s)
     (ws : List ℕ) (wide : Wide ws) where
   after-word : (w more : ℕ) (d : Decoding) → front (b ∷ s) ≡ Word w more → decoded-from (at + 1) more s ≡ d → followed-by w d ≡ words ws
       → 3 * length ws ≤ suc (length s)
@@ -139,7 +141,8 @@ module _ (at b : ℕ) (s : List ℕ)
       rw e (omega arith)
   after-word w more (damaged p) f g h = absurd (let z : _≡_ {A = ℕ} 0 1 = cc in omega arith)
 
-  after-front : (q : Sequence) → front (b ∷ s) ≡ q → beginning at q (λ more. decoded-from (at + 1) more s) ≡ words ws → 3 * length ws ≤ suc (length s)
+  after-front : (q : Sequence) → front (b ∷ s) ≡ q → beginning at q (λ more. decoded-from (at + 1) more s) ≡ words ws
+      → 3 * length ws ≤ suc (length s)
   after-front Damaged f g = absurd (let z : _≡_ {A = ℕ} 0 1 = cc in omega arith)
   after-front (Word w more) f g = after-word w more (decoded-from (at + 1) more s) f refl g
 

@@ -54,15 +54,6 @@ fn settings() -> Asked {
     })
 }
 
-fn help() -> Asked {
-    let mut buf = io::buffer();
-    let n = os::arg(1, &mut buf);
-    if check::same(&buf[..n], b"--help") {
-        return Asked::Help;
-    }
-    Asked::Unclear
-}
-
 // The settings where there are no arguments.
 fn usual() -> Settings {
     Settings {
@@ -80,7 +71,9 @@ pub fn read() -> Asked {
         return Asked::Drill(usual());
     }
     if count == 2 {
-        return help();
+        if input::help_asked() {
+            return Asked::Help;
+        }
     }
     if count == 5 {
         return settings();

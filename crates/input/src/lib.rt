@@ -1,5 +1,5 @@
-// Standard input: one read at a time, or read to its end, into a lent buffer. errno is never looked at here: it means something only
-// after `Failed`.
+// What a program is given. Standard input: one read at a time, or read to its end, into a lent buffer. errno is never looked at here: it
+// means something only after `Failed`. And what the arguments ask for.
 use libc::STDIN_FILENO;
 ghost use lib.ListN.{length};
 ghost use Rattle.input.specs.Reads.{Taken, Within};
@@ -20,6 +20,16 @@ pub enum Input {
     Longer,
     // A read failed, and errno says why.
     Failed,
+}
+
+// What the arguments of a program that takes none ask for.
+pub enum Asked {
+    // There are none: what the program is for.
+    Work,
+    // How to use it.
+    Help,
+    // Nothing that is understood.
+    Unclear,
 }
 
 // One read. It brings what is there, so that a slow line is not waited for; into a buffer of no bytes it brings nothing, as at the end.
@@ -62,4 +72,26 @@ pub fn read(buf: &mut [u8]) -> Input
         }
     }
     behind(n)
+}
+
+// Whether the first argument asks how to use the program.
+pub fn help_asked() -> bool {
+    let mut buf = io::buffer();
+    let n = os::arg(1, &mut buf);
+    check::same(&buf[..n], b"--help")
+}
+
+// What the arguments ask for, where the program takes none but `--help`.
+pub fn read_arguments() -> Asked {
+    let count = os::arg_count();
+    // The program's own name is one of them.
+    if count <= 1 {
+        return Asked::Work;
+    }
+    if count == 2 {
+        if help_asked() {
+            return Asked::Help;
+        }
+    }
+    Asked::Unclear
 }

@@ -22,7 +22,8 @@ use Rattle.choice.proofs.Choices.{both-ways, by-test}
 use Rattle.keylog.specs.Records.{byte, stated, is-settings, settings, is-event, event, is-list, list}
 use Rattle.keylog.specs.LogRecords.{cut-up, records-of, tail-of}
 use Rattle.keylog.specs.Walk.{Place}
-use Rattle.keylog.specs.Reader.{Desk, closed, opened, running, RecordEffect, refused, accepted, by-opening, by-list, by-step, by-event, record-effect}
+use Rattle.keylog.specs.Reader.{Desk, closed, opened, running, RecordEffect, refused, accepted}
+use Rattle.keylog.specs.Reader.{by-opening, by-list, by-step, by-event, record-effect}
 use Rattle.keylog.specs.Reader.{Reading, fresh, refuse, accept, unless-refused, read-record, is-cut, at-end, read}
 use Rattle.keylog.proofs.Walking.{over}
 use Rattle.keylog.proofs.Reading.{read-records}

@@ -35,38 +35,30 @@ use Rattle.notation.proofs.Passing.{Passes, _and-on_, no-digit-32, numb
 use Rattle.notation.proofs.RecordBytes.{log-to, log-begins, log-grows, log-ends}
 
 -- signs behind a number, with or without a blank before them
-module _ (v : ℕ) (l : Log) where
+record Said (v : ℕ) (l : Log) : Type 0 where
   J-said : Passes (reading T v) l (ascii " J=") (behind T v (packed "J=")) l
-  unfolding from step entry-step at-sign digit-value takes-letters is-digit is-blank ends-entry with-sign
-  J-said = record { goes-on = λ rest. refl }
-
   L-said : Passes (reading J v) l (ascii " L=") (behind J v (packed "L=")) l
-  unfolding from step entry-step at-sign digit-value takes-letters is-digit is-blank ends-entry with-sign
-  L-said = record { goes-on = λ rest. refl }
-
   solo-said : Passes (reading L v) l (ascii " solo=") (behind L v (packed "solo=")) l
-  unfolding from step entry-step at-sign digit-value takes-letters is-digit is-blank ends-entry with-sign
-  solo-said = record { goes-on = λ rest. refl }
-
   N-said : Passes (reading Ts v) l (ascii " N=") (behind Ts v (packed "N=")) l
-  unfolding from step entry-step at-sign digit-value takes-letters is-digit is-blank ends-entry with-sign
-  N-said = record { goes-on = λ rest. refl }
-
   plus-said : Passes (reading First v) l (ascii "+") (behind First v (packed "+")) l
-  unfolding from step entry-step at-sign digit-value takes-letters is-digit is-blank ends-entry with-sign
-  plus-said = record { goes-on = λ rest. refl }
-
   equals-said : Passes (reading Second v) l (ascii "=U+") (behind Second v (packed "=U+")) l
-  unfolding from step entry-step at-sign digit-value takes-letters is-digit is-blank ends-entry with-sign
-  equals-said = record { goes-on = λ rest. refl }
-
   at-said : Passes (reading Key v) l (ascii "@") (behind Key v (packed "@")) l
-  unfolding from step entry-step at-sign digit-value takes-letters is-digit is-blank ends-entry with-sign
-  at-said = record { goes-on = λ rest. refl }
-
   up-said : Passes (reading Key v) l (ascii " up@") (behind Key v (packed "up@")) l
+
+module _ (v : ℕ) (l : Log) where
+  said : Said v l
   unfolding from step entry-step at-sign digit-value takes-letters is-digit is-blank ends-entry with-sign
-  up-said = record { goes-on = λ rest. refl }
+  said =
+      record {
+        J-said = record { goes-on = λ rest. refl };
+        L-said = record { goes-on = λ rest. refl };
+        solo-said = record { goes-on = λ rest. refl };
+        N-said = record { goes-on = λ rest. refl };
+        plus-said = record { goes-on = λ rest. refl };
+        equals-said = record { goes-on = λ rest. refl };
+        at-said = record { goes-on = λ rest. refl };
+        up-said = record { goes-on = λ rest. refl };
+      }
 
   blank-said : (f : Field) → Passes (reading f v) l (ascii " ") (behind f v no-signs) l
   unfolding from step entry-step at-sign is-blank
@@ -89,7 +81,7 @@ module _ (l : Log) where
         field-before = Key;
         number-before = key;
         signs-before = packed "@";
-        passes = number-passes Start 0 no-signs l Key 0 0 refl refl key h (omega arith) and-on at-said key l;
+        passes = number-passes Start 0 no-signs l Key 0 0 refl refl key h (omega arith) and-on said key l .at-said;
         announces = refl;
       }
 
@@ -100,75 +92,33 @@ module _ (l : Log) where
         field-before = Key;
         number-before = key;
         signs-before = packed "up@";
-        passes = number-passes Start 0 no-signs l Key 0 0 refl refl key h (omega arith) and-on up-said key l;
+        passes = number-passes Start 0 no-signs l Key 0 0 refl refl key h (omega arith) and-on said key l .up-said;
         announces = refl;
       }
 
   -- the others are signs alone
-  left-down : Stroke 3 0 l
-  unfolding stroke-text following from step entry-step at-sign digit-value takes-letters is-digit is-blank ends-entry with-sign
-  left-down =
-      record {
-        field-before = Start;
-        number-before = 0;
-        signs-before = packed "L@";
-        passes = record { goes-on = λ rest. refl };
-        announces = refl;
-      }
+  signs-alone : (kind key signs : ℕ) → Passes start l (stroke-text kind key) (behind Start 0 signs) l
+      → following Start 0 signs ≡ Reads Stamp (kind-and-key kind key) → Stroke kind key l
+  signs-alone kind key signs p a = record { field-before = Start; number-before = 0; signs-before = signs; passes = p; announces = a }
 
-  right-down : Stroke 3 1 l
-  unfolding stroke-text following from step entry-step at-sign digit-value takes-letters is-digit is-blank ends-entry with-sign
-  right-down =
-      record {
-        field-before = Start;
-        number-before = 0;
-        signs-before = packed "R@";
-        passes = record { goes-on = λ rest. refl };
-        announces = refl;
-      }
+  record Alone : Type 0 where
+    left-down : Stroke 3 0 l
+    right-down : Stroke 3 1 l
+    left-up : Stroke 4 0 l
+    right-up : Stroke 4 1 l
+    function-down : Stroke 5 0 l
+    tick : Stroke 6 0 l
 
-  left-up : Stroke 4 0 l
+  alone : Alone
   unfolding stroke-text following from step entry-step at-sign digit-value takes-letters is-digit is-blank ends-entry with-sign
-  left-up =
+  alone =
       record {
-        field-before = Start;
-        number-before = 0;
-        signs-before = packed "Lup@";
-        passes = record { goes-on = λ rest. refl };
-        announces = refl;
-      }
-
-  right-up : Stroke 4 1 l
-  unfolding stroke-text following from step entry-step at-sign digit-value takes-letters is-digit is-blank ends-entry with-sign
-  right-up =
-      record {
-        field-before = Start;
-        number-before = 0;
-        signs-before = packed "Rup@";
-        passes = record { goes-on = λ rest. refl };
-        announces = refl;
-      }
-
-  function-down : Stroke 5 0 l
-  unfolding stroke-text following from step entry-step at-sign digit-value takes-letters is-digit is-blank ends-entry with-sign
-  function-down =
-      record {
-        field-before = Start;
-        number-before = 0;
-        signs-before = packed "fn@";
-        passes = record { goes-on = λ rest. refl };
-        announces = refl;
-      }
-
-  tick : Stroke 6 0 l
-  unfolding stroke-text following from step entry-step at-sign digit-value takes-letters is-digit is-blank ends-entry with-sign
-  tick =
-      record {
-        field-before = Start;
-        number-before = 0;
-        signs-before = packed "tick";
-        passes = record { goes-on = λ rest. refl };
-        announces = refl;
+        left-down = signs-alone 3 0 (packed "L@") (record { goes-on = λ rest. refl }) refl;
+        right-down = signs-alone 3 1 (packed "R@") (record { goes-on = λ rest. refl }) refl;
+        left-up = signs-alone 4 0 (packed "Lup@") (record { goes-on = λ rest. refl }) refl;
+        right-up = signs-alone 4 1 (packed "Rup@") (record { goes-on = λ rest. refl }) refl;
+        function-down = signs-alone 5 0 (packed "fn@") (record { goes-on = λ rest. refl }) refl;
+        tick = signs-alone 6 0 (packed "tick") (record { goes-on = λ rest. refl }) refl;
       }
 
   none-allowed : (i : Input) {A : Type 0} → _≡_ {A = Option Input} none (some i) → A
@@ -189,10 +139,14 @@ module _ (l : Log) where
   stroke kind key h i e =
       either (eqb kind 1) (λ t. rw (eqb-true kind 1 t) (key-down key h))
       (λ n1. either (eqb kind 2) (λ t. rw (eqb-true kind 2 t) (key-up key h))
-      (λ n2. either (eqb kind 3) (λ t. rw (eqb-true kind 3 t) (of-thumb 3 key ThumbDown i (rw (n1, n2, t) at e) left-down right-down))
-      (λ n3. either (eqb kind 4) (λ t. rw (eqb-true kind 4 t) (of-thumb 4 key ThumbUp i (rw (n1, n2, n3, t) at e) left-up right-up))
-      (λ n4. either (eqb kind 5) (λ t. rw (eqb-true kind 5 t) (of-0 5 key FunctionDown i (rw (n1, n2, n3, n4, t) at e) function-down))
-      (λ n5. either (eqb kind 6) (λ t. rw (eqb-true kind 6 t) (of-0 6 key Tick i (rw (n1, n2, n3, n4, n5, t) at e) tick))
+      (λ n2. either (eqb kind 3) (λ t. rw (eqb-true kind 3 t)
+      (of-thumb 3 key ThumbDown i (rw (n1, n2, t) at e) (alone .left-down) (alone .right-down)))
+      (λ n3. either (eqb kind 4) (λ t. rw (eqb-true kind 4 t)
+      (of-thumb 4 key ThumbUp i (rw (n1, n2, n3, t) at e) (alone .left-up) (alone .right-up)))
+      (λ n4. either (eqb kind 5) (λ t. rw (eqb-true kind 5 t)
+      (of-0 5 key FunctionDown i (rw (n1, n2, n3, n4, t) at e) (alone .function-down)))
+      (λ n5. either (eqb kind 6) (λ t. rw (eqb-true kind 6 t)
+      (of-0 6 key Tick i (rw (n1, n2, n3, n4, n5, t) at e) (alone .tick)))
       (λ n6. none-allowed i (rw (n1, n2, n3, n4, n5, n6) at e)))))))
 
 module _ (r : List ℕ) (bytes : Bytes r) (long : length r ≡ stated r) (before : List ℕ) where
@@ -240,15 +194,15 @@ module _ (r : List ℕ) (bytes : Bytes r) (long : length r ≡ stated r) (before
           bytes 3,
           bytes 4,
         ))
-        and-on J-said t (so-far 3)
+        and-on said t (so-far 3) .J-said
         and-on field-passes T J t (packed "J=") 1 3 refl refl (omega arith) (omega arith) refl j (omega (arith, bytes 5)) (omega (
           arith,
           bytes 5,
         ))
-        and-on L-said j (so-far 5)
+        and-on said j (so-far 5) .L-said
         and-on field-passes J L j (packed "L=") 0 5 refl (omega arith) (omega arith) (omega arith) refl l (omega (arith, bytes 6))
         (omega (arith, bytes 6))
-        and-on solo-said l (so-far 6)
+        and-on said l (so-far 6) .solo-said
         and-on field-passes L Solo l (packed "solo=") 0 6 refl (omega arith) (omega arith) (omega arith) refl solo (omega (arith, bytes 7))
         (omega (arith, bytes 7))
         and-on log-ends r bytes long before Solo 0 0 7 solo refl settings-tag (omega arith) (omega arith) (omega arith)
@@ -309,10 +263,10 @@ module _ (r : List ℕ) (bytes : Bytes r) (long : length r ≡ stated r) (before
         rw (append-assoc (pair-text (pair-at p r)) (pairs-text (pairs-from k (p + 4) r)) lines.line-end)
         (blank-said v (so-far at) f
         and-on field-passes f First v no-signs n at announced e h (omega arith) refl first (omega (arith, bytes p)) (omega (arith, bytes p))
-        and-on plus-said first (so-far p)
+        and-on said first (so-far p) .plus-said
         and-on field-passes First Second first (packed "+") 0 p refl (byte-is p) (omega arith) (omega arith) refl
         second (omega (arith, bytes (p + 1))) (omega (arith, bytes (p + 1)))
-        and-on equals-said second (so-far (p + 1))
+        and-on said second (so-far (p + 1)) .equals-said
         and-on (rw two at third)
         and-on (rw four at more))
 
@@ -329,7 +283,7 @@ module _ (r : List ℕ) (bytes : Bytes r) (long : length r ≡ stated r) (before
         let fits : 6 + 4 * k ≡ length r = omega (arith, list-facts r is) in
         let head = Ts-said
         and-on number-passes Start 0 (packed "T_s=") (so-far 3) Ts 0 0 refl refl ts (two-small 3) (omega (arith, two-small 3))
-        and-on N-said ts (so-far 3)
+        and-on said ts (so-far 3) .N-said
         and-on field-passes Ts N ts (packed "N=") 1 3 refl refl (omega arith) (omega arith) refl n (omega (arith, bytes 5)) (omega (
           arith,
           bytes 5,

@@ -1,41 +1,37 @@
 -- What the functions store, put together from its parts, and the room that it takes.
-use Prim.Native.Nat.{ℕ, _*_, _/_, _≤_, _<_}
+use Prim.Native.Nat.{ℕ, _+_, _*_, _/_, _≤_, _<_}
 use native.Mathlib.Nat.{zero-add}
 use native.Mathlib.Omega.{arith}
 use borrow.Author.Tests.{le-leb, lt-leb}
 use mathlib.Core.Bool.{true, false, and-false}
-use mathlib.Core.Path.{_≡_, refl, sym, ap, _∙_}
-use mathlib.Core.List.{List, _++_}
+use mathlib.Core.Path.{_≡_, refl, ap, _∙_}
+use mathlib.Core.List.{List}
 use lib.Dec.{leb}
 use lib.ListN.{length, take}
 use lib.Seq.{take-append-seam}
-use Rattle.filled.specs.Filled.{filled, Stored}
+use Rattle.filled.specs.Filled.{Stored}
 use Rattle.filled.proofs.Filling.{stored-both}
 use Rattle.keylog.specs.Runs.{high-first, encoded}
 use Rattle.keylog.specs.declared.LogAnswer.{LogAnswer}
 use Rattle.keylog.proofs.Encoded.{length-encoded}
+use Rattle.text.specs.Puts.{Puts}
 use Rattle.text.specs.Text.{text}
 use Rattle.log_opinions.specs.OfLog.{on-log, opined, answer-of}
 use Rattle.log_opinions.proofs.SameAsReader.{same-as-reader}
 use Rattle.second_opinion.specs.Whole.{Gives}
-use Rattle.status_line.specs.Status.{line-end, status}
-use Rattle.opinion_text.specs.Verdict.{unpacked, below, lines}
+use Rattle.status_line.specs.Status.{below}
+use Rattle.status_line.proofs.Statuses.{below-stored}
+use Rattle.opinion_text.specs.Verdict.{unpacked, lines}
 use Rattle.opinion_text.specs.Shows.{longest-log, word-room, packed-room, text-room, fits, shown, Shows}
 use Rattle.opinion_text.specs.declared.Shown.the-variants.{Unread, Text}
 use Rattle.opinion_text.proofs.Unpacking.{unpacked-back}
 
-pub below-stored : (number waiting offset at : ℕ) (run : List ℕ) (n1 : ℕ) (m1 : List ℕ) (n2 : ℕ) (m2 : List ℕ) (n3 : ℕ) (m3 : List ℕ)
-    → at ≤ length run → Stored at line-end run n1 m1 → Stored n1 (status number waiting offset) m1 n2 m2 → Stored n2 line-end m2 n3 m3
-    → Stored at (below number waiting offset) run n3 m3
-unfolding below
-below-stored number waiting offset at run n1 m1 n2 m2 n3 m3 h s t u =
-    let two = stored-both at line-end (status number waiting offset) run n1 m1 n2 m2 h s t in
-    stored-both at (line-end ++ status number waiting offset) line-end run n2 m2 n3 m3 h two u
-
 pub lines-stored : (words : List ℕ) (number waiting offset : ℕ) (run : List ℕ) (n1 : ℕ) (m1 : List ℕ) (n2 : ℕ) (m2 : List ℕ)
-    → Stored 0 (text words) run n1 m1 → Stored n1 (below number waiting offset) m1 n2 m2 → Stored 0 (lines words number waiting offset) run n2 m2
+    → n1 + 54 ≤ length m1 → Stored 0 (text words) run n1 m1 → Puts n1 (below number waiting offset) m1 n2 m2
+    → Stored 0 (lines words number waiting offset) run n2 m2
 unfolding lines
-lines-stored words number waiting offset run n1 m1 n2 m2 s t =
+lines-stored words number waiting offset run n1 m1 n2 m2 h s p =
+    let t = below-stored number waiting offset n1 m1 n2 m2 h p in
     stored-both 0 (text words) (below number waiting offset) run n1 m1 n2 m2 (omega arith) s t
 
 -- The room for words suffices, so that the opinion is the one given room.

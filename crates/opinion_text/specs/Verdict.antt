@@ -4,11 +4,7 @@ use Prim.Native.Nat.{ℕ, _+_, _*_}
 use mathlib.Core.List.{List, [], _∷_, _++_}
 use Rattle.text.specs.Text.{text}
 use Rattle.log_opinions.specs.OfLog.{Opined}
-use Rattle.status_line.specs.Status.{line-end, status}
-
--- what follows the line
-unfoldable pub below : ℕ → ℕ → ℕ → List ℕ
-below number waiting offset = line-end ++ status number waiting offset ++ line-end
+use Rattle.status_line.specs.Status.{below}
 
 unfoldable pub lines : List ℕ → ℕ → ℕ → ℕ → List ℕ
 lines words number waiting offset = text words ++ below number waiting offset

@@ -4,8 +4,8 @@ ghost use mathlib.Core.Path.{_≡_};
 ghost use lib.ListN.{length};
 ghost use Rattle.filled.specs.Filled.{Stored};
 ghost use Rattle.text.specs.Text as texts;
-ghost use Rattle.opinion_text.specs.Verdict.{unpacked, below, lines};
-ghost use Rattle.opinion_text.specs.Shows.{longest-log, packed-room, text-room, shown, Shows, Within};
+ghost use Rattle.opinion_text.specs.Verdict.{unpacked, lines};
+ghost use Rattle.opinion_text.specs.Shows.{longest-log, packed-room, text-room, Shows, Within};
 
 // The longest log that is read.
 pub const LONGEST_LOG: usize = 1048576;
@@ -40,7 +40,7 @@ fn word(high: u8, low: u8) -> u16
     high as u16 * 256 + low as u16
 }
 
-// The text of words at the front of a run. Answers the place behind it. So the others.
+// The text of words at the front of a run. Answers the place behind it.
 fn put_words(out: &mut [u8], packed: &[u8]) -> usize
     requires { ⌜ 3 * (length (now packed) / 2) ≤ length (now out) ⌝ }
     ensures { λ r. ⌜ Stored 0 (texts.text (unpacked (now (packed .entry)))) (now (out .entry)) r (now (out .exit)) ⌝ }
@@ -55,24 +55,14 @@ fn put_words(out: &mut [u8], packed: &[u8]) -> usize
     at
 }
 
-// What stands below the line.
-fn put_below(out: &mut [u8], at: usize, number: u32, waiting: u32, offset: usize) -> usize
-    requires { ⌜ at + 54 ≤ length (now out) ⌝ }
-    ensures { λ r. ⌜ Stored at (below number waiting offset) (now (out .entry)) r (now (out .exit)) ⌝ }
-    ensures { λ r. ⌜ r ≤ at + 54 ⌝ }
-{
-    let first = status_line::put_bytes(out, at, b"\n");
-    let second = status_line::put_status(out, first, number as u64, waiting as u64, offset as u64);
-    status_line::put_bytes(out, second, b"\n")
-}
-
+// The whole text: the words, and what follows the line.
 fn put_lines(out: &mut [u8], packed: &[u8], number: u32, waiting: u32, offset: usize) -> usize
     requires { ⌜ 3 * (length (now packed) / 2) + 54 ≤ length (now out) ⌝ }
     ensures { λ r. ⌜ Stored 0 (lines (unpacked (now (packed .entry))) number waiting offset) (now (out .entry)) r (now (out .exit)) ⌝ }
     ensures { λ r. ⌜ r ≤ length (now (out .entry)) ⌝ }
 {
     let first = put_words(out, packed);
-    put_below(out, first, number, waiting, offset)
+    status_line::put_below(out, first, number as u64, waiting as u64, offset as u64)
 }
 
 // A log looked over where there is room for its text.

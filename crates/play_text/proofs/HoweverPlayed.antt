@@ -12,6 +12,7 @@ use Rattle.choice.specs.Choice.{if_then_else_}
 use Rattle.choice.proofs.Choices.{both-ways}
 use Rattle.text.specs.Text.{text}
 use Rattle.text.proofs.Signs.{text-append}
+use Rattle.status_line.specs.Status.{status, below}
 use Rattle.keylog.specs.Reader.{read, is-cut, number-of}
 use Rattle.keylog.specs.HoweverCut.{AsWhole, Enough}
 use Rattle.keylog.specs.Pieces.{longest-log, Reader, start, so-far, formed, answer, Given, tell, unless-told, piece, end}
@@ -19,7 +20,7 @@ use Rattle.keylog.specs.Pieces.{Piece, log-of, feed, fed}
 use Rattle.keylog.proofs.HoweverCut.{however-cut}
 use Rattle.keylog.proofs.PieceFacts.{piece-facts}
 use Rattle.keylog.proofs.ReaderFormed.{formed-facts}
-use Rattle.play_text.specs.Printed.{line-end, status, closing, printed}
+use Rattle.play_text.specs.Printed.{closing, printed}
 use Rattle.play_text.specs.Played.{word-room, played, last, shown-from}
 use Rattle.play_text.specs.HoweverPlayed.{Fit, joined, after, HoweverPlayed}
 use Rattle.play_text.proofs.Sequences.{played-formed, Sound, start-sound, piece-sound, led-sound}
@@ -91,8 +92,8 @@ end-eight r h = by-told (r .told) refl
 
 -- what follows the line at a reader that was told 9
 closing-9 : (r : Reader) (at : ℕ) → last (tell r 9 at) ≡ answer (tell r 9 at)
-    → text [] ++ shown-from (tell r 9 at) [] ≡ line-end ++ status 9 0 at ++ line-end
-unfolding text closing status
+    → text [] ++ shown-from (tell r 9 at) [] ≡ below 9 0 at
+unfolding text closing below status
 closing-9 r at e = rw (e, add-zero at)
 
 module _ (ps : List (List ℕ)) (fit : Fit ps) where
@@ -126,7 +127,7 @@ module _ (ps : List (List ℕ)) (fit : Fit ps) where
 
   past-longest : (bytes : List ℕ) (more : List (List ℕ)) → after start ps .told ≡ none → longest-log < length (joined ps) + length bytes
       → shown-from start (ps ++ (bytes ∷ more))
-      ≡ text (read (length (joined ps)) (joined ps) .words) ++ (line-end ++ status 9 0 longest-log ++ line-end)
+      ≡ text (read (length (joined ps)) (joined ps) .words) ++ below 9 0 longest-log
   past-longest bytes more going past =
       let told : g .reader .told ≡ none = rw led at going in
       let counted : so-far (g .reader) ≡ length (joined ps) = sound .bytes told in

@@ -2,28 +2,26 @@
 use Prim.Native.Nat.{ℕ, _+_, _-_, _≤_, _<_}
 use native.Mathlib.Omega.{arith}
 use native.Mathlib.Nat.{zero-add}
-use borrow.Author.Tests.{le-leb, lt-leb, leb-true}
+use borrow.Author.Tests.{le-leb, lt-leb}
 use mathlib.Core.Bool.{Bool, true, false, _&&_, and-false, true≢false}
 use mathlib.Core.Logic.{_≢_}
 use mathlib.Core.Path.{_≡_, refl, sym, ap, _∙_}
-use mathlib.Core.List.{List, [], _∷_, _++_}
+use mathlib.Core.List.{List, [], _∷_}
 use mathlib.Core.Option.{Option, none, some, Option·some-injective, Option·none-ne-some}
 use lib.Dec.{leb}
 use lib.ListN.{length, take, drop, length-append, length-drop}
 use lib.Seq.{take-append-seam}
-use Rattle.rules.specs.Sequences.{waiting}
-use Rattle.rules.specs.declared.Resting.{Resting}
-use Rattle.rules.specs.declared.Resting.the-variants.{S1, S2, S3, S4, S5, S6, S7, S8}
-use Rattle.choice.proofs.Choices.{either}
 use Rattle.filled.specs.Filled.{filled, Stored}
-use Rattle.filled.proofs.Filling.{stored-both}
 use Rattle.text.specs.Text.{text, Encodes}
+use Rattle.text.specs.Puts.{Puts}
 use Rattle.text.specs.declared.Encoded.the-variants as encoded-as
 use Rattle.text.proofs.Signs.{text-short}
-use Rattle.keylog.specs.Reader.{Desk, closed, opened, running, number-of, waiting-of}
+use Rattle.status_line.specs.Status.{below}
+use Rattle.status_line.proofs.Statuses.{below-stored}
+use Rattle.keylog.specs.Reader.{number-of}
 use Rattle.keylog.specs.Runs.{as-it-is, encoded}
 use Rattle.keylog.specs.Pieces as pieces
-use Rattle.keylog.specs.Pieces.{formed, told-formed, Formed, answer, Given, piece, end}
+use Rattle.keylog.specs.Pieces.{formed, told-formed, Given, piece, end}
 use Rattle.keylog.specs.declared.LogAnswer.{LogAnswer}
 use Rattle.keylog.proofs.PieceFacts.{piece-facts}
 use Rattle.keylog.proofs.ReaderFormed.{formed-facts}
@@ -31,7 +29,7 @@ use Rattle.log_reader.specs.Listed.{room}
 use Rattle.log_reader.specs.Views.{reader-of, not-formed, usable, may-come-to, Leaves, Feeds, Ends}
 use Rattle.log_reader.specs.declared.reader.Reader.{Reader}
 use Rattle.log_reader.specs.declared.reader.Fed.{Fed}
-use Rattle.play_text.specs.Printed.{line-end, status, status-of, closing}
+use Rattle.play_text.specs.Printed.{closing}
 use Rattle.play_text.specs.Played.{buffer, word-room, text-room, played, brought, last, have-room, fits, Shows, Closes}
 use Rattle.play_text.specs.declared.Shown as Shown
 use Rattle.play_text.specs.declared.Ending as Ending
@@ -159,28 +157,7 @@ pub no-room : (r : pieces.Reader) (bytes list run : List ℕ) → length run < t
     → Shows r bytes list run Shown.the-variants.Unread list run
 no-room r bytes list run h = unread r bytes list run (rw (no-text-room list run h, and-false))
 
--- The numbers that the end answers are small.
-few-wait : (x : Resting) → length (waiting x) ≤ 2
-few-wait S1 = omega arith
-few-wait (S2 M m) = omega arith
-few-wait (S3 O o) = omega arith
-few-wait (S4 M m O o) = omega arith
-few-wait (S5 O o M m) = omega arith
-few-wait (S6 O o M m r) = omega arith
-few-wait (S7 M m K k) = omega arith
-few-wait (S8 M m K k r) = omega arith
-
-few-waiting : (d : Desk) → waiting-of d ≤ 2
-few-waiting closed = omega arith
-few-waiting (opened m) = few-wait (m .resting)
-few-waiting (running g m) = few-wait (m .resting)
-
-small-told : (f : Option ℕ) (count : ℕ) → told-formed f count ≡ true → number-of f ≤ 12
-small-told none count e = omega arith
-small-told (some n) count e =
-    either (leb n 12) (λ small. leb-true n 12 small) (λ large. absurd (true≢false (sym (rw large at e))))
-
--- and never 2, which is said only of a reader that is not well formed, nor 10, which is a drill's
+-- The number that the end answers is never 2, which is said only of a reader that is not well formed, nor 10, which is a drill's
 never-2 : (f : Option ℕ) (count : ℕ) → told-formed f count ≡ true → number-of f ≢ 2
 never-2 none count e = λ z. omega arith
 never-2 (some n) count e = λ z. true≢false (sym (rw z at e))
@@ -197,39 +174,13 @@ reached-number r d =
     let count = length (end r .pending) in
     rw (last-formed r (s .well)) (never-2 (end r .told) count told, end-eight r (s .eight), never-10 (end r .told) count told)
 
-abbrev pub Small : LogAnswer → Type 0
-Small a = (a .number < 100) × (a .waiting < 10) × (a .offset < 10_000_000_000_000)
-
-small-answer : (r : pieces.Reader) → Formed r → Small (answer r)
-small-answer r f = (
-  omega (arith, small-told (r .told) (length (r .pending)) (f .told)),
-  omega (arith, few-waiting (r .desk)),
-  omega (arith, f .bytes),
-)
-
 pub ended : (reader : Reader) (list : List ℕ) (fed : Fed) → room ≤ length list → Ends reader list (usable list reader) fed
-    → (fed .answer ≡ last (reader-of list reader)) × Small (fed .answer)
+    → fed .answer ≡ last (reader-of list reader)
 ended reader list fed wide h = by (formed (reader-of list reader)) refl (rw (le-leb room (length list) wide) at h)
   where
-    by : (t : Bool) → formed (reader-of list reader) ≡ t → Ends reader list t fed
-        → (fed .answer ≡ last (reader-of list reader)) × Small (fed .answer)
-    by true f s =
-        let r = reader-of list reader in
-        let small : Small (answer (end r)) = small-answer (end r) (formed-facts (end r) (piece-facts .end-keeps r f)) in
-        (s .answer ∙ sym (last-formed r f), rw (s .answer) small)
-    by false f s = rw s (sym (last-unformed (reader-of list reader) f), (omega arith, omega arith, omega arith))
-
--- the three parts of what follows the line
-pub closing-stored : (a : LogAnswer) (run : List ℕ) (n1 : ℕ) (m1 : List ℕ) (n2 : ℕ) (m2 : List ℕ) (n3 : ℕ) (m3 : List ℕ)
-    → 40 ≤ length run
-    → Stored 0 line-end run n1 m1
-    → Stored n1 (status (a .number) (a .waiting) (a .offset)) m1 n2 m2
-    → Stored n2 line-end m2 n3 m3
-    → Stored 0 (closing a) run n3 m3
-unfolding closing
-closing-stored a run n1 m1 n2 m2 n3 m3 long s t u =
-    stored-both 0 (line-end ++ status-of a) line-end run n2 m2 n3 m3 (omega arith)
-    (stored-both 0 line-end (status-of a) run n1 m1 n2 m2 (omega arith) s t) u
+    by : (t : Bool) → formed (reader-of list reader) ≡ t → Ends reader list t fed → fed .answer ≡ last (reader-of list reader)
+    by true f s = s .answer ∙ sym (last-formed (reader-of list reader) f)
+    by false f s = rw s (sym (last-unformed (reader-of list reader) f))
 
 -- the contract of `show_end`
 pub short-end-list : (r : pieces.Reader) (list run : List ℕ) → length list < room → Closes r list run Ending.the-variants.Full run
@@ -239,9 +190,11 @@ pub no-end-room : (r : pieces.Reader) (list run : List ℕ) → length run < tex
 no-end-room r list run h = let t = no-text-room list run h in record { answered = rw t; written = rw t }
 
 pub end-shown : (r : pieces.Reader) (list run : List ℕ) (a : LogAnswer) (n : ℕ) (after : List ℕ)
-    → room ≤ length list → text-room ≤ length run → a ≡ last r
-    → Stored 0 (closing a) run n after → Closes r list run (Ending.the-variants.Text n (a .number) (a .offset)) after
-end-shown r list run a n after wide long e s =
+    → room ≤ length list → text-room ≤ length run → a ≡ last r → Puts 0 (below (a .number) (a .waiting) (a .offset)) run n after
+    → Closes r list run (Ending.the-variants.Text n (a .number) (a .offset)) after
+unfolding closing
+end-shown r list run a n after wide long e p =
     let t : have-room list run ≡ true = roomy list run wide long in
+    let s = below-stored (a .number) (a .waiting) (a .offset) 0 run n after (omega arith) p in
     let f = stored-filled (closing a) run n after s in
     record { answered = rw (t, ← e, f .0); written = rw (t, ← e, f .1) }

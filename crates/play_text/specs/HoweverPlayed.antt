@@ -7,9 +7,10 @@ use mathlib.Core.Option.{none, some}
 use mathlib.Core.Path.{_≡_}
 use lib.ListN.{length}
 use Rattle.text.specs.Text.{text}
+use Rattle.status_line.specs.Status.{below}
 use Rattle.keylog.specs.Reader.{read}
 use Rattle.keylog.specs.Pieces.{longest-log, Reader, start}
-use Rattle.play_text.specs.Printed.{line-end, status, printed}
+use Rattle.play_text.specs.Printed.{printed}
 use Rattle.play_text.specs.Played.{buffer, played, last, shown-from}
 
 -- each piece fits the buffer
@@ -37,7 +38,7 @@ pub record HoweverPlayed : Type 0 where
   pub past-longest : (ps : List (List ℕ)) (bytes : List ℕ) (more : List (List ℕ)) → Fit ps → after start ps .told ≡ none
       → longest-log < length (joined ps) + length bytes
       → shown-from start (ps ++ (bytes ∷ more))
-      ≡ text (read (length (joined ps)) (joined ps) .words) ++ (line-end ++ status 9 0 longest-log ++ line-end)
+      ≡ text (read (length (joined ps)) (joined ps) .words) ++ below 9 0 longest-log
 
 -- A reader of which the program has got hold: some pieces that fit the buffer led to it.
 pub record Reached (r : Reader) : Type 0 where

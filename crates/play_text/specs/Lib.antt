@@ -1,4 +1,3 @@
-pub mod Decimal
 pub mod Printed
 pub mod Played
 pub mod HoweverPlayed

@@ -1,19 +1,16 @@
 // What the program prints while a log arrives in pieces, as text in a lent run: a piece's words, and at the end what follows the line.
 // Another lent run is where the log's list of pairs lives.
-use keylog::LogAnswer;
-use pairs::PAIRS_MOST;
 use log_reader::Reader;
+use pairs::PAIRS_MOST;
 use text::Encoded;
-ghost use Prim.Native.Nat.{_+_, _≤_, _<_};
+ghost use Prim.Native.Nat.{_≤_};
 ghost use mathlib.Core.Path.{_≡_};
 ghost use lib.ListN.{length};
 ghost use Rattle.filled.specs.Filled.{Stored};
 ghost use Rattle.text.specs.Text as texts;
 ghost use Rattle.log_reader.specs.Listed.{room};
 ghost use Rattle.log_reader.specs.Views.{reader-of};
-ghost use Rattle.play_text.specs.Decimal.{decimal};
-ghost use Rattle.play_text.specs.Printed.{status, closing};
-ghost use Rattle.play_text.specs.Played.{buffer, word-room, text-room, last, Shows, Shown-within, Closes, Ending-within};
+ghost use Rattle.play_text.specs.Played.{buffer, word-room, text-room, Shows, Shown-within, Closes, Ending-within};
 
 // The longest piece: what the program's buffer holds.
 pub const BUFFER: usize = 65536;
@@ -49,66 +46,6 @@ fn word_buffer() -> [u16; WORD_ROOM]
     [0; WORD_ROOM]
 }
 
-// Some bytes at a place where they fit. Answers the place behind them.
-fn put_bytes(out: &mut [u8], at: usize, bytes: &[u8]) -> usize
-    requires { ⌜ at + length (now bytes) ≤ length (now out) ⌝ }
-    ensures { λ r. ⌜ Stored at (now (bytes .entry)) (now (out .entry)) r (now (out .exit)) ⌝ }
-{
-    let mut i = 0;
-    while i < bytes.len() {
-        out[at + i] = bytes[i];
-        i += 1;
-    }
-    at + i
-}
-
-// A number's digits at a place where they fit.
-fn put_number(out: &mut [u8], at: usize, n: u64) -> usize
-    requires { ⌜ n < 10_000_000_000_000 ⌝ }
-    requires { ⌜ at + 13 ≤ length (now out) ⌝ }
-    ensures { λ r. ⌜ Stored at (decimal n) (now (out .entry)) r (now (out .exit)) ⌝ }
-    ensures { λ r. ⌜ r ≤ at + 13 ⌝ }
-{
-    let mut digits = [0u8; 20];
-    let k = io::decimal(n, &mut digits);
-    put_bytes(out, at, &digits[..k])
-}
-
-// `waiting N` or `refused N at OFFSET`, at a place where it fits.
-fn put_status(out: &mut [u8], at: usize, number: u64, waiting: u64, offset: u64) -> usize
-    requires { ⌜ (number < 100) × (waiting < 10) × (offset < 10_000_000_000_000) ⌝ }
-    requires { ⌜ at + 38 ≤ length (now out) ⌝ }
-    ensures { λ r. ⌜ Stored at (status number waiting offset) (now (out .entry)) r (now (out .exit)) ⌝ }
-    ensures { λ r. ⌜ r ≤ at + 38 ⌝ }
-{
-    if number == 0 {
-        let behind = put_bytes(out, at, b"waiting ");
-        return put_number(out, behind, waiting);
-    }
-    let first = put_bytes(out, at, b"refused ");
-    let second = put_number(out, first, number);
-    let third = put_bytes(out, second, b" at ");
-    put_number(out, third, offset)
-}
-
-// What follows the line, at the front of a run where it fits.
-fn put_closing(out: &mut [u8], answer: LogAnswer) -> usize
-    requires { ⌜ (answer .number < 100) × (answer .waiting < 10) × (answer .offset < 10_000_000_000_000) ⌝ }
-    requires { ⌜ 40 ≤ length (now out) ⌝ }
-    ensures { λ r. ⌜ Stored 0 (closing answer) (now (out .entry)) r (now (out .exit)) ⌝ }
-    ensures { λ r. ⌜ r ≤ 40 ⌝ }
-{
-    let first = put_bytes(out, 0, b"\n");
-    let second = put_status(
-        out,
-        first,
-        answer.number as u64,
-        answer.waiting as u64,
-        answer.offset as u64,
-    );
-    put_bytes(out, second, b"\n")
-}
-
 // The text of words at the front of a run where it fits. Answers the place behind it.
 fn put_line(out: &mut [u8], words: &[u16]) -> usize
     requires { ⌜ length (texts.text (now words)) ≤ length (now out) ⌝ }
@@ -125,7 +62,8 @@ fn put_piece(reader: Reader, list: &mut [u32], piece: &[u8], out: &mut [u8]) -> 
     requires { ⌜ length (now piece) ≤ buffer ⌝ }
     requires { ⌜ room ≤ length (now list) ⌝ }
     requires { ⌜ text-room ≤ length (now out) ⌝ }
-    ensures { λ r. ⌜ Shows (reader-of (now (list .entry)) reader) (now (piece .entry)) (now (list .entry)) (now (out .entry)) r (now (list .exit)) (now (out .exit)) ⌝ }
+    ensures { λ r. ⌜ Shows (reader-of (now (list .entry)) reader) (now (piece .entry)) (now (list .entry)) (now (out .entry))
+        r (now (list .exit)) (now (out .exit)) ⌝ }
     ensures { λ r. ⌜ Shown-within (length (now (out .entry))) r ⌝ }
 {
     let mut words = word_buffer();
@@ -141,7 +79,8 @@ fn put_piece(reader: Reader, list: &mut [u32], piece: &[u8], out: &mut [u8]) -> 
 
 // A piece of the log: the text that it brings, at the front of a run of at least `TEXT_ROOM` bytes.
 pub fn show_piece(reader: Reader, list: &mut [u32], piece: &[u8], out: &mut [u8]) -> Shown
-    ensures { λ r. ⌜ Shows (reader-of (now (list .entry)) reader) (now (piece .entry)) (now (list .entry)) (now (out .entry)) r (now (list .exit)) (now (out .exit)) ⌝ }
+    ensures { λ r. ⌜ Shows (reader-of (now (list .entry)) reader) (now (piece .entry)) (now (list .entry)) (now (out .entry))
+        r (now (list .exit)) (now (out .exit)) ⌝ }
     ensures { λ r. ⌜ Shown-within (length (now (out .entry))) r ⌝ }
 {
     if BUFFER < piece.len() {
@@ -156,16 +95,6 @@ pub fn show_piece(reader: Reader, list: &mut [u32], piece: &[u8], out: &mut [u8]
     put_piece(reader, list, piece, out)
 }
 
-// The answer at the end.
-fn answer_at_end(reader: Reader, list: &[u32]) -> LogAnswer
-    requires { ⌜ room ≤ length (now list) ⌝ }
-    ensures { λ r. ⌜ r ≡ last (reader-of (now (list .entry)) reader) ⌝ }
-    ensures { λ r. ⌜ (r .number < 100) × (r .waiting < 10) × (r .offset < 10_000_000_000_000) ⌝ }
-{
-    let fed = log_reader::end_log(reader, list);
-    fed.answer
-}
-
 // The log has ended: what follows the line, at the front of a run of at least `TEXT_ROOM` bytes.
 pub fn show_end(reader: Reader, list: &[u32], out: &mut [u8]) -> Ending
     ensures { λ r. ⌜ Closes (reader-of (now (list .entry)) reader) (now (list .entry)) (now (out .entry)) r (now (out .exit)) ⌝ }
@@ -177,11 +106,14 @@ pub fn show_end(reader: Reader, list: &[u32], out: &mut [u8]) -> Ending
     if out.len() < TEXT_ROOM {
         return Ending::Full;
     }
-    let answer = answer_at_end(reader, list);
-    let bytes = put_closing(out, answer);
+    let fed = log_reader::end_log(reader, list);
+    let answer = fed.answer;
+    let number = answer.number;
+    let offset = answer.offset;
+    let bytes = status_line::put_below(out, 0, number as u64, answer.waiting as u64, offset as u64);
     Ending::Text {
         bytes: bytes,
-        number: answer.number,
-        offset: answer.offset,
+        number: number,
+        offset: offset,
     }
 }

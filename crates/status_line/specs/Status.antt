@@ -14,3 +14,7 @@ unfoldable pub status : ℕ → ℕ → ℕ → List ℕ
 status number waiting offset =
     if eqb number 0 then (ascii "waiting " ++ decimal waiting)
     else (ascii "refused " ++ decimal number ++ ascii " at " ++ decimal offset)
+
+-- what follows the line: a line end, the status, a line end
+unfoldable pub below : ℕ → ℕ → ℕ → List ℕ
+below number waiting offset = line-end ++ status number waiting offset ++ line-end

@@ -5,7 +5,7 @@ ghost use lib.ListN.{length};
 ghost use Rattle.filled.specs.Filled.{Stored};
 ghost use Rattle.text.specs.Puts.{Puts};
 ghost use Rattle.status_line.specs.Decimal.{decimal};
-ghost use Rattle.status_line.specs.Status.{status};
+ghost use Rattle.status_line.specs.Status.{status, below};
 
 // Some bytes at a place where they fit. Answers the place behind them.
 fn copy(out: &mut [u8], at: usize, bytes: &[u8]) -> usize
@@ -64,5 +64,26 @@ pub fn put_status(out: &mut [u8], at: usize, number: u64, waiting: u64, offset: 
 {
     let mut spelt = [0u8; 52];
     let n = spell(&mut spelt, number, waiting, offset);
+    put_bytes(out, at, &spelt[..n])
+}
+
+// What follows a line, at the front of a run that has room for it.
+fn spell_below(out: &mut [u8], number: u64, waiting: u64, offset: u64) -> usize
+    requires { ⌜ 54 ≤ length (now out) ⌝ }
+    ensures { λ r. ⌜ Stored 0 (below number waiting offset) (now (out .entry)) r (now (out .exit)) ⌝ }
+    ensures { λ r. ⌜ r ≤ 54 ⌝ }
+{
+    let first = put_bytes(out, 0, b"\n");
+    let second = put_status(out, first, number, waiting, offset);
+    put_bytes(out, second, b"\n")
+}
+
+// What follows a line, a line end, the status and a line end: all of it, or nothing.
+pub fn put_below(out: &mut [u8], at: usize, number: u64, waiting: u64, offset: u64) -> usize
+    ensures { λ r. ⌜ Puts at (below number waiting offset) (now (out .entry)) r (now (out .exit)) ⌝ }
+    ensures { λ r. ⌜ r ≤ at + 54 ⌝ }
+{
+    let mut spelt = [0u8; 54];
+    let n = spell_below(&mut spelt, number, waiting, offset);
     put_bytes(out, at, &spelt[..n])
 }

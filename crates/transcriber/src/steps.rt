@@ -11,7 +11,11 @@ use notation::Progress;
 use notation::Step;
 ghost use Prim.Native.Nat.{_<_};
 ghost use mathlib.Core.Path.{_≡_};
+ghost use lib.Dec.{eqb};
+ghost use Rattle.choice.specs.Choice.{if_then_else_};
 ghost use Rattle.notation.specs.Transcribing as notation;
+ghost use Rattle.notation.specs.declared.Field.the-variants.{Stamp};
+ghost use Rattle.notation.specs.declared.Follow.the-variants.{Reads};
 
 // Signs as one number: a 1, then their bytes.
 const NO_SIGNS: u64 = 1;
@@ -48,43 +52,26 @@ const BEFORE_SECOND: u64 = 0x12b;
 // `=U+`
 const BEFORE_CODE_POINT: u64 = 0x13d_552b;
 
-// The largest number that a field's bytes hold.
-fn most(field: Field) -> u64
-    ensures { λ r. ⌜ r ≡ notation.most field ⌝ }
-{
-    match field {
-        Field::Start => 0,
-        Field::T => 65535,
-        Field::J => 255,
-        Field::L => 255,
-        Field::Solo => 255,
-        Field::Key => 255,
-        Field::Stamp => 18446744073709551615,
-        Field::Ts => 65535,
-        Field::N => 255,
-        Field::First => 255,
-        Field::Second => 255,
-        Field::Character => 65535,
-    }
-}
+// How a field's number is written: the largest that its bytes hold, and whether its digits are hexadecimal.
+struct Numeral(u64, bool);
 
 // A pair's character is its code point in hexadecimal digits, every other number is decimal.
-fn is_code_point(field: Field) -> bool
-    ensures { λ r. ⌜ r ≡ notation.is-code-point field ⌝ }
+fn written(field: Field) -> Numeral
+    ensures { λ r. ⌜ (r .0 ≡ notation.most field) × (r .1 ≡ notation.is-code-point field) ⌝ }
 {
     match field {
-        Field::Start => false,
-        Field::T => false,
-        Field::J => false,
-        Field::L => false,
-        Field::Solo => false,
-        Field::Key => false,
-        Field::Stamp => false,
-        Field::Ts => false,
-        Field::N => false,
-        Field::First => false,
-        Field::Second => false,
-        Field::Character => true,
+        Field::Start => Numeral(0, false),
+        Field::T => Numeral(65535, false),
+        Field::J => Numeral(255, false),
+        Field::L => Numeral(255, false),
+        Field::Solo => Numeral(255, false),
+        Field::Key => Numeral(255, false),
+        Field::Stamp => Numeral(18446744073709551615, false),
+        Field::Ts => Numeral(65535, false),
+        Field::N => Numeral(255, false),
+        Field::First => Numeral(255, false),
+        Field::Second => Numeral(255, false),
+        Field::Character => Numeral(65535, true),
     }
 }
 
@@ -92,7 +79,8 @@ fn base(field: Field) -> u64
     ensures { λ r. ⌜ r ≡ notation.base field ⌝ }
     ensures { λ r. ⌜ 0 < r ⌝ }
 {
-    if is_code_point(field) { 16 } else { 10 }
+    let n = written(field);
+    if n.1 { 16 } else { 10 }
 }
 
 fn takes_letters(p: Progress) -> bool
@@ -100,7 +88,8 @@ fn takes_letters(p: Progress) -> bool
 {
     if p.growing {
         let field = p.field;
-        return is_code_point(field);
+        let n = written(field);
+        return n.1;
     }
     p.signs == BEFORE_CODE_POINT
 }
@@ -142,61 +131,56 @@ fn kind_and_key(kind: u8, key: u64) -> Output
     push(2, kind as u64 * 256 + key % 256)
 }
 
-// What an entry begins with.
+// Signs that may stand, with the field that they announce and what is known of the record by then.
+fn one_of(signs: u64, expected: u64, field: Field, output: Output, otherwise: Follow) -> Follow
+    ensures { λ r. ⌜ r ≡ if eqb signs expected then Reads field output else otherwise ⌝ }
+{
+    if signs == expected {
+        return Follow::Reads(field, output);
+    }
+    otherwise
+}
+
+// A stamp behind signs that tell the kind and the key.
+fn stamp(signs: u64, expected: u64, kind: u8, key: u64, otherwise: Follow) -> Follow
+    ensures { λ r. ⌜ r ≡ if eqb signs expected then Reads Stamp (notation.kind-and-key kind key) else otherwise ⌝ }
+{
+    one_of(
+        signs,
+        expected,
+        Field::Stamp,
+        kind_and_key(kind, key),
+        otherwise,
+    )
+}
+
+// What an entry begins with, from the last choice to the first.
 fn beginning(signs: u64) -> Follow
     ensures { λ r. ⌜ r ≡ notation.beginning signs ⌝ }
 {
-    if signs == NO_SIGNS {
-        return Follow::Reads(Field::Key, nothing());
-    }
-    if signs == BEFORE_T {
-        return Follow::Reads(Field::T, nothing());
-    }
-    if signs == BEFORE_TS {
-        return Follow::Reads(Field::Ts, nothing());
-    }
-    if signs == LEFT_DOWN {
-        return Follow::Reads(Field::Stamp, kind_and_key(3, 0));
-    }
-    if signs == RIGHT_DOWN {
-        return Follow::Reads(Field::Stamp, kind_and_key(3, 1));
-    }
-    if signs == LEFT_UP {
-        return Follow::Reads(Field::Stamp, kind_and_key(4, 0));
-    }
-    if signs == RIGHT_UP {
-        return Follow::Reads(Field::Stamp, kind_and_key(4, 1));
-    }
-    if signs == FUNCTION {
-        return Follow::Reads(Field::Stamp, kind_and_key(5, 0));
-    }
-    if signs == TICK {
-        return Follow::Reads(Field::Stamp, kind_and_key(6, 0));
-    }
-    Follow::Unfit
+    let tick = stamp(signs, TICK, 6, 0, Follow::Unfit);
+    let function = stamp(signs, FUNCTION, 5, 0, tick);
+    let right_up = stamp(signs, RIGHT_UP, 4, 1, function);
+    let left_up = stamp(signs, LEFT_UP, 4, 0, right_up);
+    let right_down = stamp(signs, RIGHT_DOWN, 3, 1, left_up);
+    let left_down = stamp(signs, LEFT_DOWN, 3, 0, right_down);
+    let list = one_of(signs, BEFORE_TS, Field::Ts, nothing(), left_down);
+    let settings = one_of(signs, BEFORE_T, Field::T, nothing(), list);
+    one_of(signs, NO_SIGNS, Field::Key, nothing(), settings)
 }
 
 // A field that only these signs announce.
 fn only(signs: u64, expected: u64, field: Field, width: u8, number: u64) -> Follow
     ensures { λ r. ⌜ r ≡ notation.only signs expected field width number ⌝ }
 {
-    if signs == expected {
-        return Follow::Reads(field, push(width, number));
-    }
-    Follow::Unfit
+    one_of(signs, expected, field, push(width, number), Follow::Unfit)
 }
 
 // A stamp behind a character key.
 fn stroke(key: u64, signs: u64) -> Follow
     ensures { λ r. ⌜ r ≡ notation.stroke key signs ⌝ }
 {
-    if signs == DOWN {
-        return Follow::Reads(Field::Stamp, kind_and_key(1, key));
-    }
-    if signs == UP {
-        return Follow::Reads(Field::Stamp, kind_and_key(2, key));
-    }
-    Follow::Unfit
+    stamp(signs, DOWN, 1, key, stamp(signs, UP, 2, key, Follow::Unfit))
 }
 
 // The field that signs announce, behind a field and its number.
@@ -267,7 +251,8 @@ fn behind(p: Progress, signs: u64) -> Progress
 fn grown(field: Field, number: u64, digit: u8) -> Step
     ensures { λ r. ⌜ r ≡ notation.grown field number digit ⌝ }
 {
-    let limit = most(field);
+    let n = written(field);
+    let limit = n.0;
     let tens = base(field);
     if limit < digit as u64 {
         return Step::Wrong(Expected::AtMost(limit));

@@ -7,7 +7,9 @@ put-stage-requires : tie.Need-put-stage-requires
 put-stage-requires c κs = c .before .before .before .before .before .before .pre .1
 
 returns : tie.Need-returns
-returns c = rw (c .before .before .before .before .before .stage-at .ensures, c .before .before .before .before .waiting-at .ensures) at (c .before .before .put-stage .ensures)
+returns c =
+    let w = c .before .before .before .before in
+    rw (w .before .stage-at .ensures, w .waiting-at .ensures) at (c .before .before .put-stage .ensures)
 
 pub put-board-spec : {M : Type 1} → statement M
 put-board-spec =

@@ -10,13 +10,21 @@ put-first-requires : tie.Need-put-first-requires
 put-first-requires c κs = (c .before .before .before .before .pre .0, omega (arith, c .before .before .before .before .pre .1))
 
 put-second-requires : tie.Need-put-second-requires
-put-second-requires c κs = omega (arith, c .before .before .before .put-first .kept .0, c .before .before .before .put-first .ensures .1, c .before .before .before .before .before .before .before .before .pre .1)
+put-second-requires c κs =
+    let first = c .before .before .before in
+    omega (arith, first .put-first .kept .0, first .put-first .ensures .1, first .before .before .before .before .before .pre .1)
 
 same-length : tie.Need-same-length
 same-length c = c .before .before .put-second .kept .0 ∙ c .before .before .before .before .before .before .put-first .kept .0
 
 returns : tie.Need-returns
-returns c = (stored-both _ _ _ _ _ _ _ _ (omega (arith, c .before .before .before .before .before .before .before .before .before .before .before .pre .1)) (c .before .before .before .before .before .before .put-first .ensures .0) (c .before .before .put-second .ensures .0), omega (arith, c .before .before .before .before .before .before .put-first .ensures .1, c .before .before .put-second .ensures .1))
+returns c =
+    let second = c .before .before .put-second in
+    let first = c .before .before .before .before .before .before in
+    let o = first .before .before .before .before .before in (
+      stored-both _ _ _ _ _ _ _ _ (omega (arith, o .pre .1)) (first .put-first .ensures .0) (second .ensures .0),
+      omega (arith, first .put-first .ensures .1, second .ensures .1),
+    )
 
 pub put-lines-spec : {M : Type 1} → statement M
 put-lines-spec =

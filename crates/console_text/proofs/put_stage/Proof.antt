@@ -6,10 +6,10 @@ use Rattle.console_text.proofs.put_stage.Statement.{statement}
 use Rattle.console_text.proofs.put_stage.Tie as tie
 
 put-lines-requires : tie.Need-put-lines-requires
-put-lines-requires c κs = (c .before .before .before .before .before .before .pre .0, c .before .before .before .before .before .before .pre .1)
+put-lines-requires c κs = c .before .before .before .before .before .before .pre
 
 put-lines-requires-2 : tie.Need-put-lines-requires-2
-put-lines-requires-2 c κs = (c .before .before .before .before .before .before .before .pre .0, c .before .before .before .before .before .before .before .pre .1)
+put-lines-requires-2 c κs = c .before .before .before .before .before .before .before .pre
 
 returns : tie.Need-returns
 returns c = rw (c .enum-told .given .1) (stored-none _ _, omega arith)

@@ -13,6 +13,30 @@ Inv-loop out₀ at board boards words next₀ i₀ out next i = Picking boards w
 abbrev μ-loop : tie.MeasureT-loop
 μ-loop out₀ at board boards words next₀ i₀ out next i = length words - i
 
+put-word-requires : tie.Need-put-word-requires Inv-loop μ-loop
+put-word-requires c κs =
+    let test = c .before .before .before .before in
+    let o = test .before .before .before .before .before in
+    rw (c .before .wide .ensures)
+    (next-fits _ _ _ (o .pre .0) _ _ (o .pre .1) _ _ _ (test .before .loop .inv) (test .loop-test .taken))
+
+loop-again : tie.Need-loop-again Inv-loop μ-loop
+loop-again c =
+    let test = c .before .before .before .before .before .before .before in
+    let o = test .before .before .before .before .before in
+    taken _ _ _ (o .pre .0) _ _ (o .pre .1) _ _ _ (test .before .loop .inv) (test .loop-test .taken) _ _
+    (rw (c .before .before .before .before .wide .ensures) at (c .before .before .put-word .ensures))
+
+kept : tie.Need-same-length Inv-loop μ-loop
+kept c =
+    let o = c .before .before .before .before .before in
+    same-length _ _ _ (o .pre .0) _ _ (o .pre .1) _ _ _ (c .before .loop .inv)
+
+returns : tie.Need-returns Inv-loop μ-loop
+returns c =
+    let o = c .before .before .before .before .before in
+    all-taken _ _ _ (o .pre .0) _ _ (o .pre .1) _ _ _ (c .before .loop .inv) (c .loop-test .left)
+
 pub put-words-spec : {M : Type 1} → statement M
 put-words-spec =
     tie.close
@@ -24,9 +48,9 @@ put-words-spec =
     (λ c κs. search needs)
     (λ c. search needs)
     (λ c. search needs)
-    (λ c κs. rw (c .before .wide .ensures) (next-fits _ _ _ (c .before .before .before .before .before .before .before .before .before .pre .0) _ _ (c .before .before .before .before .before .before .before .before .before .pre .1) _ _ _ (c .before .before .before .before .before .loop .inv) (c .before .before .before .before .loop-test .taken)))
+    put-word-requires
     (λ c. search needs)
     (λ c. search needs)
-    (λ c. taken _ _ _ (c .before .before .before .before .before .before .before .before .before .before .before .before .pre .0) _ _ (c .before .before .before .before .before .before .before .before .before .before .before .before .pre .1) _ _ _ (c .before .before .before .before .before .before .before .before .loop .inv) (c .before .before .before .before .before .before .before .loop-test .taken) _ _ (rw (c .before .before .before .before .wide .ensures) at (c .before .before .put-word .ensures)))
-    (λ c. same-length _ _ _ (c .before .before .before .before .before .pre .0) _ _ (c .before .before .before .before .before .pre .1) _ _ _ (c .before .loop .inv))
-    (λ c. all-taken _ _ _ (c .before .before .before .before .before .pre .0) _ _ (c .before .before .before .before .before .pre .1) _ _ _ (c .before .loop .inv) (c .loop-test .left)))
+    loop-again
+    kept
+    returns)

@@ -6,7 +6,12 @@ use Rattle.console_text.proofs.show.Statement.{statement}
 use Rattle.console_text.proofs.show.Tie as tie
 
 returns-3 : tie.Need-returns-3
-returns-3 c = (is-shown _ _ _ _ (c .before .before .before .before .before .if1 .left) (c .before .before .before .before .if2 .left) (c .before .before .put-log .ensures .0), omega (arith, c .before .before .before .before .if2 .left, c .before .before .put-log .ensures .1))
+returns-3 c =
+    let put = c .before .before .put-log in
+    let room = c .before .before .before .before in (
+      is-shown _ _ _ _ (room .before .if1 .left) (room .if2 .left) (put .ensures .0),
+      omega (arith, room .if2 .left, put .ensures .1),
+    )
 
 pub show-spec : {M : Type 1} → statement M
 show-spec =

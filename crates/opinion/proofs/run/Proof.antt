@@ -1,24 +1,8 @@
--- `opinion::run` meets its contract.
+-- `opinion::run` meets its contract: what was read is the front of the buffer.
 use borrow.Author.Needs.{needs}
-use native.Mathlib.Omega.{arith}
-use mathlib.Core.Path.{sym}
-use lib.Seq.{length-take-le}
-use lib.ListN.{length-take}
+use Rattle.input.proofs.Fronts.{front-fits, front-long, front-short}
 use Rattle.opinion.proofs.run.Statement.{statement}
 use Rattle.opinion.proofs.run.Tie as tie
-
-array-share-prefix-log : tie.Need-array-share-prefix-log
-array-share-prefix-log c =
-    omega (arith, rw (c .before .n .given .1) at (c .before .before .before .before .read .ensures), c .before .before .before .before .read .kept .0)
-
-slice-aggregate-print-log : tie.Need-slice-aggregate-print-log
-slice-aggregate-print-log c =
-    sym (length-take-le _ _ (omega (arith, rw (c .before .before .n .given .1) at (c .before .before .before .before .before .read .ensures), c .before .before .before .before .before .read .kept .0)))
-
-print-log-requires : tie.Need-print-log-requires
-print-log-requires c κs =
-    let n = c .before .before .before .n .given .0 .0 in
-    (omega (arith, length-take n (c .before .before .before .before .before .before .read .last .0), c .before .before .before .before .before .before .read .kept .0, c .before .before .before .before .before .before .before .before .before .with-log .ensures), omega (arith, c .before .before .before .before .before .before .before .before .with-text .ensures))
 
 pub run-spec : {M : Type 1} → statement M
 run-spec =
@@ -29,10 +13,10 @@ run-spec =
     (λ c. search needs)
     (λ c κs. search needs)
     (λ c. search needs)
-    array-share-prefix-log
-    slice-aggregate-print-log
+    (λ c. search (front-fits, needs))
+    (λ c. search (front-long, needs))
     (λ c. search needs)
-    print-log-requires
+    (λ c κs. (search (front-short, needs), search needs))
     (λ c. search needs)
     (λ c. search needs)
     (λ c κs. search needs)

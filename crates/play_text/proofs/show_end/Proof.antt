@@ -1,22 +1,19 @@
--- `play_text::show_end` meets its contract.
+-- `play_text::show_end` meets its contract: `e` is the place behind the reader's end, `o` the entry.
 use borrow.Author.Needs.{needs}
 use native.Mathlib.Omega.{arith}
-use Rattle.play_text.proofs.Reporting.{short-end-list, no-end-room, end-shown}
+use Rattle.play_text.proofs.Reporting.{short-end-list, no-end-room, ended, end-shown}
 use Rattle.play_text.proofs.show_end.Statement.{statement}
 use Rattle.play_text.proofs.show_end.Tie as tie
 
-put-closing-requires : tie.Need-put-closing-requires
-put-closing-requires c κs =
-    let a = c .before .answer-at-end in
-    (a .ensures .1, omega (arith, c .before .before .if2 .left))
-
 returns-3 : tie.Need-returns-3
 returns-3 c =
-    let text = c .before .before .put-closing in
-    let a = c .before .before .before .before .answer-at-end in
-    let room = c .before .before .before .before .before .if2 .left in
-    let wide = c .before .before .before .before .before .before .if1 .left in
-    (end-shown _ _ _ _ _ _ wide room (a .ensures .0) (text .ensures .0), omega (arith, text .ensures .1, room))
+    let text = c .before .before .put-below in
+    let e = c .before .before .before .before .before .before in
+    let room = e .before .if2 .left in
+    let wide = e .before .before .if1 .left in
+    let o = e .before .before .before .before .before in
+    let answer = ended (o .args .reader) (o .args .list .now) (e .end-log .result) wide (e .end-log .ensures) in
+    (end-shown _ _ _ (e .end-log .result .answer) _ _ wide room answer (text .ensures .0), omega (arith, text .ensures .1, room))
 
 pub show-end-spec : {M : Type 1} → statement M
 show-end-spec =
@@ -25,6 +22,8 @@ show-end-spec =
     (λ c. (short-end-list _ _ _ (c .if1 .taken), tt))
     (λ c. (no-end-room _ _ _ (c .if2 .taken), tt))
     (λ c κs. search needs)
-    put-closing-requires
-    (λ c. c .before .before .put-closing .kept .0)
+    (λ c. search needs)
+    (λ c. search needs)
+    (λ c κs. search needs)
+    (λ c. c .before .before .put-below .kept .0)
     returns-3)

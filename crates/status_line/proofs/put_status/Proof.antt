@@ -2,13 +2,13 @@
 use borrow.Author.Needs.{needs}
 use mathlib.Core.Path.{sym}
 use lib.Seq.{length-take-le}
-use Rattle.status_line.proofs.Statuses.{put-spelt}
+use Rattle.status_line.proofs.Statuses.{put-spelt, status-short}
 use Rattle.status_line.proofs.put_status.Statement.{statement}
 use Rattle.status_line.proofs.put_status.Tie as tie
 
 returns : tie.Need-returns
 returns c =
-    put-spelt _ _ _ _ _ _ _ _ _ _ (c .before .before .before .before .before .before .spell .ensures .0)
+    put-spelt _ 52 _ _ _ _ _ _ _ (status-short _ _ _) (c .before .before .before .before .before .before .spell .ensures .0)
     (c .before .before .put-bytes .ensures)
 
 pub put-status-spec : {M : Type 1} → statement M

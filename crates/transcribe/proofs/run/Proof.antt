@@ -1,8 +1,6 @@
--- `run` meets its contract.
+-- `transcribe::run` meets its contract: what was read is the front of the buffer.
 use borrow.Author.Needs.{needs}
-use native.Mathlib.Omega.{arith}
-use mathlib.Core.Path.{sym}
-use lib.Seq.{length-take-le}
+use Rattle.input.proofs.Fronts.{front-fits, front-long}
 use Rattle.transcribe.proofs.run.Statement.{statement}
 use Rattle.transcribe.proofs.run.Tie as tie
 
@@ -15,16 +13,8 @@ run-spec =
     (λ c. search needs)
     (λ c κs. search needs)
     (λ c. search needs)
-    (λ c. omega (
-      arith,
-      rw (c .before .n .given .1) at (c .before .before .before .before .read .ensures),
-      c .before .before .before .before .read .kept .0,
-    ))
-    (λ c. sym (length-take-le _ _ (omega (
-      arith,
-      rw (c .before .before .n .given .1) at (c .before .before .before .before .before .read .ensures),
-      c .before .before .before .before .before .read .kept .0,
-    ))))
+    (λ c. search (front-fits, needs))
+    (λ c. search (front-long, needs))
     (λ c. search needs)
     (λ c κs. search needs)
     (λ c. search needs)

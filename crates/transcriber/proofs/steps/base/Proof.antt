@@ -8,5 +8,5 @@ base-spec =
     tie.close
     (tie.spec
     (λ c κs. search needs)
-    (λ c. (rw (← c .before .is-code-point .ensures, c .if1 .taken), search needs))
-    (λ c. (rw (← c .before .is-code-point .ensures, c .if1 .left), search needs)))
+    (λ c. (rw (← c .before .written .ensures .1, c .if1 .taken), search needs))
+    (λ c. (rw (← c .before .written .ensures .1, c .if1 .left), search needs)))

@@ -1,6 +1,5 @@
 -- `steps::only` meets its contract.
 use borrow.Author.Needs.{needs}
-use borrow.Author.Tests.{eq-eqb, ne-eqb}
 use Rattle.transcriber.proofs.steps.only.Statement.{statement}
 use Rattle.transcriber.proofs.steps.only.Tie as tie
 
@@ -9,5 +8,5 @@ only-spec =
     tie.close
     (tie.spec
     (λ c κs. search needs)
-    (λ c. rw (eq-eqb _ _ (c .before .if1 .taken), ← c .push .ensures))
-    (λ c. rw (ne-eqb _ _ (c .if1 .left))))
+    (λ c κs. search needs)
+    (λ c. rw (c .one-of .ensures, c .before .push .ensures)))

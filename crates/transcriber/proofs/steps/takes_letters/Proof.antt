@@ -10,5 +10,5 @@ takes-letters-spec =
     tie.close
     (tie.spec
     (λ c κs. search needs)
-    (λ c. rw (c .before .if1 .taken, ← c .is-code-point .ensures))
+    (λ c. rw (c .before .if1 .taken, ← c .written .ensures .1))
     (λ c. rw (c .before .if1 .left)))
