@@ -1,0 +1,6 @@
+pub mod Adds
+pub mod Words
+pub mod Notates
+pub mod Room
+pub mod RoundTrip
+pub mod Examples
