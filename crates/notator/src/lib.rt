@@ -5,7 +5,6 @@ mod records;
 mod refusal;
 
 use log::put_log;
-ghost use mathlib.Core.Path.{_≡_};
 ghost use lib.ListN.{length};
 ghost use Rattle.notator.specs.Notates.{Notates, Within};
 
