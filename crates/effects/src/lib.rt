@@ -1,9 +1,9 @@
 // What a rule can do: commit nothing, a character, a mark, both, two characters or that of a pair, and leave a state. Key is a character
 // key, second another, thumb a thumb.
 use pairs::pair_character;
-use rules::Items;
 use rules::Face;
 use rules::Item;
+use rules::Items;
 use rules::Key;
 use rules::Resting;
 use rules::Settings;

@@ -201,7 +201,12 @@ pub extern "C" fn trabeculon_step(
             let after = done.machine;
             let items = done.items;
             let sent = done.sendings;
-            answer(machine_numbers::in_numbers(after), done.number, committed(items), sent)
+            answer(
+                machine_numbers::in_numbers(after),
+                done.number,
+                committed(items),
+                sent,
+            )
         }
     }
 }
