@@ -1,0 +1,323 @@
+// One event in a sentence: what was late before it, what it did, by which numbers, and what would have been a little sooner or later. Every
+// number comes from `why`, every decision from `engine`.
+use crate::words::put;
+use crate::words::put_items;
+use crate::words::put_key;
+use crate::words::put_ms;
+use crate::words::put_number;
+use crate::words::put_stamp;
+use crate::words::put_thumb;
+use engine::Items;
+use engine::Stepped;
+use engine::Times;
+use margins::Compared;
+use margins::Due;
+use rules::Event;
+use rules::Key;
+use rules::Machine;
+use rules::Resting;
+use rules::Stamp;
+use rules::Thumb;
+use waits::lag;
+use why::Numbers;
+
+fn thumb_of(key: Key) -> Thumb {
+    if key.0 == 0 {
+        return Thumb::Left;
+    }
+    Thumb::Right
+}
+
+// What happened: `key 21 released`.
+fn put_what(out: &mut [u8], at: usize, event: Event) -> usize {
+    let key = event.key;
+    let kind = event.kind;
+    match kind {
+        1 => {
+            let behind = put_key(out, at, key);
+            put(out, behind, b" pressed")
+        }
+        2 => {
+            let behind = put_key(out, at, key);
+            put(out, behind, b" released")
+        }
+        3 => {
+            let behind = put_thumb(out, at, thumb_of(key));
+            put(out, behind, b" pressed")
+        }
+        4 => {
+            let behind = put_thumb(out, at, thumb_of(key));
+            put(out, behind, b" released")
+        }
+        5 => put(out, at, b"function key pressed"),
+        _ => put(out, at, b"tick"),
+    }
+}
+
+// A key of the held set pressed again, or one released that is not in it, does what a tick does.
+fn acts_as_tick(held: u32, event: Event) -> bool {
+    let key = event.key;
+    let kind = event.kind;
+    match kind {
+        1 => held::is_held(held, key),
+        2 => !held::is_held(held, key),
+        _ => false,
+    }
+}
+
+// The thumb with an article.
+fn put_the(out: &mut [u8], at: usize, thumb: Thumb) -> usize {
+    let behind = put(out, at, b"the ");
+    put_thumb(out, behind, thumb)
+}
+
+fn put_thumb_release(out: &mut [u8], at: usize, thumb: Thumb) -> usize {
+    let behind = put_the(out, at, thumb);
+    put(out, behind, b"'s release")
+}
+
+fn put_key_release(out: &mut [u8], at: usize, key: Key) -> usize {
+    let behind = put_key(out, at, key);
+    put(out, behind, b"'s release")
+}
+
+// What began the state that rests.
+fn put_began(out: &mut [u8], at: usize, resting: Resting) -> usize {
+    match resting {
+        Resting::S1 => at,
+        Resting::S2(key, _) => put_key(out, at, key),
+        Resting::S3(thumb, _) => put_the(out, at, thumb),
+        Resting::S4(_, _, thumb, _) => put_the(out, at, thumb),
+        Resting::S5(_, _, key, _) => put_key(out, at, key),
+        Resting::S6(thumb, _, _, _, _) => put_thumb_release(out, at, thumb),
+        Resting::S7(_, _, second, _) => put_key(out, at, second),
+        Resting::S8(key, _, _, _, _) => put_key_release(out, at, key),
+    }
+}
+
+fn is_idle(resting: Resting) -> bool {
+    match resting {
+        Resting::S1 => true,
+        _ => false,
+    }
+}
+
+// How long after what began the state: ` 20 ms after the right thumb`.
+fn put_after(out: &mut [u8], at: usize, resting: Resting, stamp: Stamp) -> usize {
+    if is_idle(resting) {
+        return at;
+    }
+    let first = put(out, at, b" ");
+    let second = put_ms(out, first, lag(margins::began(resting), stamp));
+    let third = put(out, second, b" after ");
+    put_began(out, third, resting)
+}
+
+// What stayed away until the deadline.
+fn put_missed(out: &mut [u8], at: usize, resting: Resting) -> usize {
+    match resting {
+        Resting::S1 => at,
+        Resting::S2(_, _) => put(out, at, b"no thumb came"),
+        Resting::S3(_, _) => put(out, at, b"no key came"),
+        Resting::S4(key, _, _, _) => {
+            let behind = put_key(out, at, key);
+            put(out, behind, b" was still down")
+        }
+        Resting::S5(thumb, _, _, _) => {
+            let behind = put_the(out, at, thumb);
+            put(out, behind, b" was still down")
+        }
+        Resting::S6(_, _, key, _, _) => {
+            let behind = put_key(out, at, key);
+            put(out, behind, b" was still down")
+        }
+        Resting::S7(_, _, _, _) => put(out, at, b"both keys were still down"),
+        Resting::S8(_, _, second, _, _) => {
+            let behind = put_key(out, at, second);
+            put(out, behind, b" was still down")
+        }
+    }
+}
+
+// The line "late": `no thumb came 100 ms after key 21`.
+fn put_late(out: &mut [u8], at: usize, resting: Resting, due: Due) -> usize {
+    match due {
+        Due::Never => at,
+        Due::At(stamp) => {
+            let first = put_missed(out, at, resting);
+            put_after(out, first, resting, stamp)
+        }
+    }
+}
+
+fn put_gap(out: &mut [u8], at: usize, gap: rules::Lag, text: &[u8]) -> usize {
+    let first = put(out, at, b"; the gap before it was ");
+    let second = put_ms(out, first, gap);
+    put(out, second, text)
+}
+
+// The stamp from which on the overlap suffices.
+fn enough(numbers: Numbers) -> Due {
+    let later = numbers.later;
+    match later {
+        Due::At(stamp) => Due::At(stamp),
+        Due::Never => {
+            let sooner = numbers.sooner;
+            match sooner {
+                Due::Never => Due::Never,
+                Due::At(stamp) => Due::At(waits::later(stamp, rules::Lag(1))),
+            }
+        }
+    }
+}
+
+fn put_needed(out: &mut [u8], at: usize, resting: Resting, numbers: Numbers) -> usize {
+    match enough(numbers) {
+        Due::Never => at,
+        Due::At(stamp) => {
+            let first = put(out, at, b"; ");
+            let second = put_ms(out, first, lag(margins::began(resting), stamp));
+            put(out, second, b" were needed")
+        }
+    }
+}
+
+// What was compared.
+fn put_compared(out: &mut [u8], at: usize, resting: Resting, numbers: Numbers) -> usize {
+    let compared = numbers.compared;
+    match compared {
+        Compared::Nothing => at,
+        Compared::TakesThumb(a, _) => put_gap(out, at, a, b""),
+        Compared::TakesCharacter(a, _) => put_gap(out, at, a, b""),
+        Compared::Stays(a, _) => put_gap(out, at, a, b""),
+        Compared::Overlaps(_, _, _) => put_needed(out, at, resting, numbers),
+        Compared::OverlapsAsPair(_, _, _, _) => put_needed(out, at, resting, numbers),
+        Compared::OverlapsOf(percent, b, _) => {
+            let first = put(out, at, b"; the keys were down together for ");
+            let second = put_ms(out, first, b);
+            let third = put(out, second, b", and ");
+            let fourth = put_number(out, third, percent as u64);
+            put(out, fourth, b" percent were needed")
+        }
+    }
+}
+
+// The machine as it was when its state began.
+fn begun(machine: Machine) -> Machine {
+    let resting = machine.resting;
+    let settings = machine.settings;
+    Machine {
+        settings: settings,
+        resting: resting,
+        last: margins::began(resting),
+        held: machine.held,
+    }
+}
+
+// What the same event would have committed at another stamp.
+fn items_at(list: &[u32], times: Times, machine: Machine, event: Event, stamp: Stamp) -> Items {
+    let key = event.key;
+    let answer = engine::step(
+        list,
+        times,
+        begun(machine),
+        Event {
+            kind: event.kind,
+            key: key,
+            stamp: stamp,
+        },
+    );
+    answer.items
+}
+
+// ` 10 ms later が`, if that is decided otherwise.
+fn put_otherwise(
+    out: &mut [u8],
+    at: usize,
+    list: &[u32],
+    times: Times,
+    machine: Machine,
+    event: Event,
+    away: rules::Lag,
+    stamp: Stamp,
+    when: &[u8],
+) -> usize {
+    let first = put(out, at, b"; ");
+    let second = put_ms(out, first, away);
+    let third = put(out, second, when);
+    put_items(out, third, items_at(list, times, machine, event, stamp))
+}
+
+fn put_margins(
+    out: &mut [u8],
+    at: usize,
+    list: &[u32],
+    times: Times,
+    machine: Machine,
+    event: Event,
+    numbers: Numbers,
+) -> usize {
+    let mut behind = at;
+    let stamp = event.stamp;
+    let later = numbers.later;
+    let sooner = numbers.sooner;
+    match later {
+        Due::Never => {}
+        Due::At(t) => {
+            behind = put_otherwise(out, behind, list, times, machine, event, lag(stamp, t), t, b" later: ");
+        }
+    }
+    match sooner {
+        Due::Never => {}
+        Due::At(t) => {
+            behind = put_otherwise(out, behind, list, times, machine, event, lag(t, stamp), t, b" sooner: ");
+        }
+    }
+    behind
+}
+
+fn put_committed(out: &mut [u8], at: usize, items: Items) -> usize {
+    match items {
+        Items::None => at,
+        Items::One(item) => {
+            let behind = put(out, at, b": ");
+            crate::words::put_item(out, behind, item)
+        }
+        Items::Two(item, other) => {
+            let first = put(out, at, b": ");
+            let second = crate::words::put_item(out, first, item);
+            crate::words::put_item(out, second, other)
+        }
+    }
+}
+
+// The sentence of an accepted event.
+pub fn put_sentence(
+    out: &mut [u8],
+    at: usize,
+    list: &[u32],
+    times: Times,
+    machine: Machine,
+    event: Event,
+    items: Items,
+) -> usize {
+    let resting = machine.resting;
+    let stamp = event.stamp;
+    let numbers = why::numbers_at(list, times, machine, event);
+    let mut behind = at;
+    if numbers.late {
+        behind = put_late(out, behind, resting, numbers.due);
+        behind = put_committed(out, behind, items);
+        behind = put(out, behind, b"; then ");
+        behind = put_what(out, behind, event);
+    } else {
+        behind = put_what(out, behind, event);
+        behind = put_after(out, behind, resting, stamp);
+        behind = put_compared(out, behind, resting, numbers);
+        behind = put_committed(out, behind, items);
+    }
+    if acts_as_tick(machine.held, event) {
+        behind = put(out, behind, b", as a tick");
+    }
+    put_margins(out, behind, list, times, machine, event, numbers)
+}
