@@ -5,15 +5,14 @@ use crate::words::put_items;
 use crate::words::put_key;
 use crate::words::put_ms;
 use crate::words::put_number;
-use crate::words::put_stamp;
 use crate::words::put_thumb;
 use engine::Items;
-use engine::Stepped;
 use engine::Times;
 use margins::Compared;
 use margins::Due;
 use rules::Event;
 use rules::Key;
+use rules::Lag;
 use rules::Machine;
 use rules::Resting;
 use rules::Stamp;
@@ -102,6 +101,27 @@ fn is_idle(resting: Resting) -> bool {
     }
 }
 
+// Whether an event releases what began the state.
+fn releases(resting: Resting, event: Event) -> bool {
+    let key = event.key;
+    let kind = event.kind;
+    match resting {
+        Resting::S2(down, _) => {
+            if kind == 2 {
+                return waits::same_key(key, down);
+            }
+            false
+        }
+        Resting::S3(thumb, _) => {
+            if kind == 4 {
+                return effects::same_thumb(thumb_of(key), thumb);
+            }
+            false
+        }
+        _ => false,
+    }
+}
+
 // How long after what began the state: ` 20 ms after the right thumb`.
 fn put_after(out: &mut [u8], at: usize, resting: Resting, stamp: Stamp) -> usize {
     if is_idle(resting) {
@@ -111,6 +131,16 @@ fn put_after(out: &mut [u8], at: usize, resting: Resting, stamp: Stamp) -> usize
     let second = put_ms(out, first, lag(margins::began(resting), stamp));
     let third = put(out, second, b" after ");
     put_began(out, third, resting)
+}
+
+// When the event came: after what began the state, or how long that was down.
+fn put_when(out: &mut [u8], at: usize, resting: Resting, event: Event) -> usize {
+    let stamp = event.stamp;
+    if releases(resting, event) {
+        let first = put(out, at, b" after ");
+        return put_ms(out, first, lag(margins::began(resting), stamp));
+    }
+    put_after(out, at, resting, stamp)
 }
 
 // What stayed away until the deadline.
@@ -150,10 +180,10 @@ fn put_late(out: &mut [u8], at: usize, resting: Resting, due: Due) -> usize {
     }
 }
 
-fn put_gap(out: &mut [u8], at: usize, gap: rules::Lag, text: &[u8]) -> usize {
+// The gap that the other one is compared with.
+fn put_gap(out: &mut [u8], at: usize, gap: Lag) -> usize {
     let first = put(out, at, b"; the gap before it was ");
-    let second = put_ms(out, first, gap);
-    put(out, second, text)
+    put_ms(out, first, gap)
 }
 
 // The stamp from which on the overlap suffices.
@@ -165,7 +195,7 @@ fn enough(numbers: Numbers) -> Due {
             let sooner = numbers.sooner;
             match sooner {
                 Due::Never => Due::Never,
-                Due::At(stamp) => Due::At(waits::later(stamp, rules::Lag(1))),
+                Due::At(stamp) => Due::At(waits::later(stamp, Lag(1))),
             }
         }
     }
@@ -187,9 +217,9 @@ fn put_compared(out: &mut [u8], at: usize, resting: Resting, numbers: Numbers) -
     let compared = numbers.compared;
     match compared {
         Compared::Nothing => at,
-        Compared::TakesThumb(a, _) => put_gap(out, at, a, b""),
-        Compared::TakesCharacter(a, _) => put_gap(out, at, a, b""),
-        Compared::Stays(a, _) => put_gap(out, at, a, b""),
+        Compared::TakesThumb(a, _) => put_gap(out, at, a),
+        Compared::TakesCharacter(a, _) => put_gap(out, at, a),
+        Compared::Stays(a, _) => put_gap(out, at, a),
         Compared::Overlaps(_, _, _) => put_needed(out, at, resting, numbers),
         Compared::OverlapsAsPair(_, _, _, _) => put_needed(out, at, resting, numbers),
         Compared::OverlapsOf(percent, b, _) => {
@@ -215,7 +245,7 @@ fn begun(machine: Machine) -> Machine {
 }
 
 // What the same event would have committed at another stamp.
-fn items_at(list: &[u32], times: Times, machine: Machine, event: Event, stamp: Stamp) -> Items {
+pub fn items_at(list: &[u32], times: Times, machine: Machine, event: Event, stamp: Stamp) -> Items {
     let key = event.key;
     let answer = engine::step(
         list,
@@ -230,22 +260,48 @@ fn items_at(list: &[u32], times: Times, machine: Machine, event: Event, stamp: S
     answer.items
 }
 
-// ` 10 ms later が`, if that is decided otherwise.
-fn put_otherwise(
-    out: &mut [u8],
-    at: usize,
-    list: &[u32],
-    times: Times,
-    machine: Machine,
-    event: Event,
-    away: rules::Lag,
-    stamp: Stamp,
-    when: &[u8],
-) -> usize {
+// Whether what is measured is an overlap: a release that came too early, or late enough.
+fn is_overlap(compared: Compared) -> bool {
+    match compared {
+        Compared::Overlaps(_, _, _) => true,
+        Compared::OverlapsAsPair(_, _, _, _) => true,
+        _ => false,
+    }
+}
+
+// `; 10 ms later: が`.
+fn put_other(out: &mut [u8], at: usize, away: Lag, when: &[u8], items: Items) -> usize {
     let first = put(out, at, b"; ");
     let second = put_ms(out, first, away);
     let third = put(out, second, when);
-    put_items(out, third, items_at(list, times, machine, event, stamp))
+    put_items(out, third, items)
+}
+
+// `, not が; 10 ms too early`.
+fn put_not(out: &mut [u8], at: usize, away: Lag, how: &[u8], items: Items) -> usize {
+    let first = put(out, at, b", not ");
+    let second = put_items(out, first, items);
+    let third = put(out, second, b"; ");
+    let fourth = put_ms(out, third, away);
+    put(out, fourth, how)
+}
+
+// What a later event would have done.
+fn put_later(out: &mut [u8], at: usize, stamp: Stamp, turn: Stamp, overlap: bool, items: Items) -> usize {
+    let away = lag(stamp, turn);
+    if overlap {
+        return put_not(out, at, away, b" too early", items);
+    }
+    put_other(out, at, away, b" later: ", items)
+}
+
+// What an earlier one would have done.
+fn put_sooner(out: &mut [u8], at: usize, stamp: Stamp, turn: Stamp, overlap: bool, items: Items) -> usize {
+    let away = lag(turn, stamp);
+    if overlap {
+        return put_not(out, at, lag(waits::later(turn, Lag(1)), stamp), b" to spare", items);
+    }
+    put_other(out, at, away, b" sooner: ", items)
 }
 
 fn put_margins(
@@ -261,16 +317,19 @@ fn put_margins(
     let stamp = event.stamp;
     let later = numbers.later;
     let sooner = numbers.sooner;
+    let overlap = is_overlap(numbers.compared);
     match later {
         Due::Never => {}
-        Due::At(t) => {
-            behind = put_otherwise(out, behind, list, times, machine, event, lag(stamp, t), t, b" later: ");
+        Due::At(turn) => {
+            let items = items_at(list, times, machine, event, turn);
+            behind = put_later(out, behind, stamp, turn, overlap, items);
         }
     }
     match sooner {
         Due::Never => {}
-        Due::At(t) => {
-            behind = put_otherwise(out, behind, list, times, machine, event, lag(t, stamp), t, b" sooner: ");
+        Due::At(turn) => {
+            let items = items_at(list, times, machine, event, turn);
+            behind = put_sooner(out, behind, stamp, turn, overlap, items);
         }
     }
     behind
@@ -279,16 +338,48 @@ fn put_margins(
 fn put_committed(out: &mut [u8], at: usize, items: Items) -> usize {
     match items {
         Items::None => at,
-        Items::One(item) => {
+        _ => {
             let behind = put(out, at, b": ");
-            crate::words::put_item(out, behind, item)
-        }
-        Items::Two(item, other) => {
-            let first = put(out, at, b": ");
-            let second = crate::words::put_item(out, first, item);
-            crate::words::put_item(out, second, other)
+            put_items(out, behind, items)
         }
     }
+}
+
+// What was late, and then the event itself.
+fn put_after_late(
+    out: &mut [u8],
+    at: usize,
+    resting: Resting,
+    due: Due,
+    event: Event,
+    items: Items,
+) -> usize {
+    let first = put_late(out, at, resting, due);
+    let second = put_committed(out, first, items);
+    let third = put(out, second, b"; then ");
+    put_what(out, third, event)
+}
+
+// The event in time.
+fn put_in_time(
+    out: &mut [u8],
+    at: usize,
+    resting: Resting,
+    numbers: Numbers,
+    event: Event,
+    items: Items,
+) -> usize {
+    let first = put_what(out, at, event);
+    let second = put_when(out, first, resting, event);
+    let third = put_compared(out, second, resting, numbers);
+    put_committed(out, third, items)
+}
+
+fn put_tick(out: &mut [u8], at: usize, held: u32, event: Event) -> usize {
+    if acts_as_tick(held, event) {
+        return put(out, at, b", as a tick");
+    }
+    at
 }
 
 // The sentence of an accepted event.
@@ -302,22 +393,12 @@ pub fn put_sentence(
     items: Items,
 ) -> usize {
     let resting = machine.resting;
-    let stamp = event.stamp;
     let numbers = why::numbers_at(list, times, machine, event);
-    let mut behind = at;
-    if numbers.late {
-        behind = put_late(out, behind, resting, numbers.due);
-        behind = put_committed(out, behind, items);
-        behind = put(out, behind, b"; then ");
-        behind = put_what(out, behind, event);
+    let behind = if numbers.late {
+        put_after_late(out, at, resting, numbers.due, event, items)
     } else {
-        behind = put_what(out, behind, event);
-        behind = put_after(out, behind, resting, stamp);
-        behind = put_compared(out, behind, resting, numbers);
-        behind = put_committed(out, behind, items);
-    }
-    if acts_as_tick(machine.held, event) {
-        behind = put(out, behind, b", as a tick");
-    }
-    put_margins(out, behind, list, times, machine, event, numbers)
+        put_in_time(out, at, resting, numbers, event, items)
+    };
+    let told = put_tick(out, behind, machine.held, event);
+    put_margins(out, told, list, times, machine, event, numbers)
 }

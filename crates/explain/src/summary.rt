@@ -1,15 +1,18 @@
 // What was committed in all, and the closest calls: the decisions that the fewest milliseconds would have turned.
 use crate::rows::print;
+use crate::sentences::items_at;
 use crate::words::put;
 use crate::words::put_number;
 use crate::words::put_word;
 use engine::Items;
+use engine::Times;
 use margins::Due;
+use rules::Event;
 use rules::Face;
 use rules::Item;
+use rules::Machine;
 use rules::Stamp;
 use waits::lag;
-use why::Numbers;
 
 // So many closest calls are kept.
 pub const CALLS: usize = 5;
@@ -96,25 +99,44 @@ pub fn count_items(totals: Totals, items: Items) -> Totals {
     }
 }
 
-fn later_by(stamp: Stamp, due: Due) -> u64 {
-    match due {
-        Due::Never => NONE,
-        Due::At(t) => lag(stamp, t).0,
+// The word of the first item, 0 for none.
+pub fn first_word(items: Items) -> u16 {
+    match items {
+        Items::None => 0,
+        Items::One(item) => layout::word(item),
+        Items::Two(item, _) => layout::word(item),
     }
 }
 
-fn sooner_by(stamp: Stamp, due: Due) -> u64 {
+// How far away another stamp is, if the event would have committed another character there.
+fn away(stamp: Stamp, turn: Stamp, items: Items, other: Items) -> u64 {
+    let word = first_word(other);
+    if word == 0 {
+        return NONE;
+    }
+    if word == first_word(items) {
+        return NONE;
+    }
+    if waits::before(stamp, turn) {
+        return lag(stamp, turn).0;
+    }
+    lag(turn, stamp).0
+}
+
+fn away_at(list: &[u32], times: Times, machine: Machine, event: Event, items: Items, due: Due) -> u64 {
+    let stamp = event.stamp;
     match due {
         Due::Never => NONE,
-        Due::At(t) => lag(t, stamp).0,
+        Due::At(turn) => away(stamp, turn, items, items_at(list, times, machine, event, turn)),
     }
 }
 
-// How many milliseconds sooner or later turn a decision.
-pub fn margin(stamp: Stamp, numbers: Numbers) -> u64 {
-    let after = later_by(stamp, numbers.later);
-    let before = sooner_by(stamp, numbers.sooner);
-    if after < before { after } else { before }
+// How many milliseconds sooner or later would have committed another character.
+pub fn margin(list: &[u32], times: Times, machine: Machine, event: Event, items: Items) -> u64 {
+    let numbers = why::numbers_at(list, times, machine, event);
+    let later = away_at(list, times, machine, event, items, numbers.later);
+    let sooner = away_at(list, times, machine, event, items, numbers.sooner);
+    if later < sooner { later } else { sooner }
 }
 
 // The place of the widest margin that is kept.
