@@ -28,269 +28,323 @@ pub enum Asked {
     Unclear,
 }
 
-// What an argument did: so many arguments are taken.
-enum Took {
-    Some(Options, usize),
+// What the next argument is: an option or a file's name, or what an option asks for; or it does not matter any more.
+enum Expected {
+    Any,
+    Why,
+    Lines,
+    From,
+    To,
     Help,
     Unclear,
 }
 
-enum Parsed {
-    Value(u64),
-    Not,
+// The arguments up to a place.
+struct Reading {
+    options: Options,
+    expected: Expected,
+}
+
+// A number at the front of some bytes, and the place behind it.
+struct Digits {
+    value: u64,
+    next: usize,
 }
 
 // No number asked for is larger.
 const LARGEST: u64 = 1_000_000_000_000_000;
 
-fn extend(n: u64, b: u8) -> Parsed {
+// What no number is.
+const NOT: u64 = 100_000_000_000_000_000;
+
+// A number with one more digit, or what no number is.
+fn extend(n: u64, b: u8) -> u64 {
     if decimals::digit(b) {
         if n < LARGEST {
             if b'0' <= b {
-                return Parsed::Value(n * 10 + (b - b'0') as u64);
+                return n * 10 + (b - b'0') as u64;
             }
         }
     }
-    Parsed::Not
+    NOT
 }
 
-fn number(bytes: &[u8]) -> Parsed {
-    if bytes.len() == 0 {
-        return Parsed::Not;
-    }
+fn digits_at(bytes: &[u8], from: usize) -> Digits {
     let mut n = 0;
-    let mut i = 0;
+    let mut i = from;
     while i < bytes.len() {
-        match extend(n, bytes[i]) {
-            Parsed::Value(next) => n = next,
-            Parsed::Not => return Parsed::Not,
+        let next = extend(n, bytes[i]);
+        if next == NOT {
+            return Digits { value: n, next: i };
         }
+        n = next;
         i += 1;
     }
-    Parsed::Value(n)
+    Digits { value: n, next: i }
 }
 
-// The number that an argument is.
-fn argument(i: usize) -> Parsed {
-    let mut buf = io::buffer();
-    let n = os::arg(i, &mut buf);
-    number(&buf[..n])
-}
-
-// The place of the first point, the length where there is none.
-fn point(bytes: &[u8]) -> usize {
-    let mut i = 0;
-    while i < bytes.len() {
-        if bytes[i] == b'.' {
-            return i;
-        }
-        i += 1;
+// The number from a place to the end, or what no number is.
+fn number(bytes: &[u8], from: usize) -> u64 {
+    if bytes.len() <= from {
+        return NOT;
     }
-    i
+    let found = digits_at(bytes, from);
+    if found.next == bytes.len() {
+        return found.value;
+    }
+    NOT
 }
 
-// The number before a point.
-fn before(bytes: &[u8]) -> Parsed {
-    let at = point(bytes);
-    if at <= bytes.len() {
-        return number(&bytes[..at]);
+fn is_point(bytes: &[u8], at: usize) -> bool {
+    if at < bytes.len() {
+        return bytes[at] == b'.';
     }
-    Parsed::Not
+    false
 }
 
-// The number behind two points.
-fn behind(bytes: &[u8]) -> Parsed {
-    let at = point(bytes);
-    if bytes.len() < 2 {
-        return Parsed::Not;
-    }
-    if at <= bytes.len() - 2 {
-        if bytes[at + 1] == b'.' {
-            return number(&bytes[at + 2..]);
+// Whether two points stand at a place.
+fn are_points(bytes: &[u8], at: usize) -> bool {
+    if at < bytes.len() {
+        if is_point(bytes, at) {
+            return is_point(bytes, at + 1);
         }
     }
-    Parsed::Not
+    false
 }
 
-fn with_range(options: Options, range: Range) -> Options {
+// The number behind two points, or what no number is.
+fn behind_points(bytes: &[u8], at: usize) -> u64 {
+    if at < bytes.len() {
+        if are_points(bytes, at) {
+            return number(bytes, at + 2);
+        }
+    }
+    NOT
+}
+
+fn unclear(options: Options) -> Reading {
+    Reading {
+        options: options,
+        expected: Expected::Unclear,
+    }
+}
+
+fn with_range(options: Options, range: Range) -> Reading {
     let mode = options.mode;
-    Options {
-        mode: mode,
-        range: range,
-        progress: options.progress,
-        file: options.file,
-    }
-}
-
-// `A..B`.
-fn lines(options: Options, i: usize) -> Took {
-    let mut buf = io::buffer();
-    let n = os::arg(i, &mut buf);
-    let Parsed::Value(first) = before(&buf[..n]) else {
-        return Took::Unclear;
-    };
-    let Parsed::Value(last) = behind(&buf[..n]) else {
-        return Took::Unclear;
-    };
-    let range = options.range;
-    Took::Some(
-        with_range(
-            options,
-            Range {
-                first: first,
-                last: last,
-                from: range.from,
-                to: range.to,
-            },
-        ),
-        2,
-    )
-}
-
-fn why(options: Options, i: usize) -> Took {
-    let Parsed::Value(n) = argument(i) else {
-        return Took::Unclear;
-    };
-    let range = options.range;
-    Took::Some(
-        Options {
-            mode: Mode::Why(n),
+    Reading {
+        options: Options {
+            mode: mode,
             range: range,
             progress: options.progress,
             file: options.file,
         },
-        2,
-    )
+        expected: Expected::Any,
+    }
 }
 
-fn from(options: Options, i: usize) -> Took {
-    let Parsed::Value(n) = argument(i) else {
-        return Took::Unclear;
-    };
+fn with_mode(options: Options, mode: Mode) -> Reading {
     let range = options.range;
-    let cut = Range {
-        first: range.first,
-        last: range.last,
-        from: n,
-        to: range.to,
-    };
-    Took::Some(with_range(options, cut), 2)
+    Reading {
+        options: Options {
+            mode: mode,
+            range: range,
+            progress: options.progress,
+            file: options.file,
+        },
+        expected: Expected::Any,
+    }
 }
 
-fn to(options: Options, i: usize) -> Took {
-    let Parsed::Value(n) = argument(i) else {
-        return Took::Unclear;
-    };
-    let range = options.range;
-    let cut = Range {
-        first: range.first,
-        last: range.last,
-        from: range.from,
-        to: n,
-    };
-    Took::Some(with_range(options, cut), 2)
-}
-
-fn progress(options: Options) -> Took {
+fn with_progress(options: Options) -> Reading {
     let mode = options.mode;
     let range = options.range;
-    Took::Some(
-        Options {
+    Reading {
+        options: Options {
             mode: mode,
             range: range,
             progress: true,
             file: options.file,
         },
-        1,
+        expected: Expected::Any,
+    }
+}
+
+// `A..B`.
+fn lines(options: Options, bytes: &[u8]) -> Reading {
+    let found = digits_at(bytes, 0);
+    let first = found.value;
+    let last = behind_points(bytes, found.next);
+    if first == 0 {
+        return unclear(options);
+    }
+    if last < first {
+        return unclear(options);
+    }
+    if last == NOT {
+        return unclear(options);
+    }
+    let range = options.range;
+    with_range(
+        options,
+        Range {
+            first: first,
+            last: last,
+            from: range.from,
+            to: range.to,
+        },
+    )
+}
+
+fn why(options: Options, n: u64) -> Reading {
+    if n == 0 {
+        return unclear(options);
+    }
+    if n == NOT {
+        return unclear(options);
+    }
+    with_mode(options, Mode::Why(n))
+}
+
+fn from(options: Options, n: u64) -> Reading {
+    if n == NOT {
+        return unclear(options);
+    }
+    let range = options.range;
+    with_range(
+        options,
+        Range {
+            first: range.first,
+            last: range.last,
+            from: n,
+            to: range.to,
+        },
+    )
+}
+
+fn to(options: Options, n: u64) -> Reading {
+    if n == NOT {
+        return unclear(options);
+    }
+    let range = options.range;
+    with_range(
+        options,
+        Range {
+            first: range.first,
+            last: range.last,
+            from: range.from,
+            to: n,
+        },
     )
 }
 
 // A file's name: only one, and what begins with `-` is none.
-fn file(options: Options, i: usize, name: &[u8]) -> Took {
+fn file(options: Options, i: usize, name: &[u8]) -> Reading {
     if options.file != 0 {
-        return Took::Unclear;
+        return unclear(options);
     }
     if name.len() == 0 {
-        return Took::Unclear;
+        return unclear(options);
     }
     if name[0] == b'-' {
-        return Took::Unclear;
+        return unclear(options);
     }
     let mode = options.mode;
     let range = options.range;
-    Took::Some(
-        Options {
+    Reading {
+        options: Options {
             mode: mode,
             range: range,
             progress: options.progress,
             file: i,
         },
-        1,
-    )
+        expected: Expected::Any,
+    }
 }
 
-// One argument, with the number behind it where it has one.
-fn take(options: Options, i: usize) -> Took {
-    let mut buf = io::buffer();
-    let n = os::arg(i, &mut buf);
-    let name = &buf[..n];
-    if LARGEST as usize <= i {
-        return Took::Unclear;
+fn expecting(options: Options, expected: Expected) -> Reading {
+    Reading {
+        options: options,
+        expected: expected,
     }
+}
+
+// An option, or a file's name.
+fn named(options: Options, i: usize, name: &[u8]) -> Reading {
     if check::same(name, b"--help") {
-        return Took::Help;
+        return expecting(options, Expected::Help);
     }
     if check::same(name, b"--why") {
-        return why(options, i + 1);
+        return expecting(options, Expected::Why);
     }
     if check::same(name, b"--lines") {
-        return lines(options, i + 1);
+        return expecting(options, Expected::Lines);
     }
     if check::same(name, b"--from") {
-        return from(options, i + 1);
+        return expecting(options, Expected::From);
     }
     if check::same(name, b"--to") {
-        return to(options, i + 1);
+        return expecting(options, Expected::To);
     }
     if check::same(name, b"--progress") {
-        return progress(options);
+        return with_progress(options);
     }
     file(options, i, name)
 }
 
-fn usual() -> Options {
-    Options {
-        mode: Mode::Table,
-        range: Range {
-            first: 0,
-            last: LARGEST,
-            from: 0,
-            to: LARGEST,
+// One argument, by what was expected.
+fn take(reading: Reading, i: usize) -> Reading {
+    let mut buf = io::buffer();
+    let n = os::arg(i, &mut buf);
+    let name = &buf[..n];
+    let options = reading.options;
+    let expected = reading.expected;
+    match expected {
+        Expected::Any => named(options, i, name),
+        Expected::Why => why(options, number(name, 0)),
+        Expected::Lines => lines(options, name),
+        Expected::From => from(options, number(name, 0)),
+        Expected::To => to(options, number(name, 0)),
+        Expected::Help => reading,
+        Expected::Unclear => reading,
+    }
+}
+
+fn usual() -> Reading {
+    Reading {
+        options: Options {
+            mode: Mode::Table,
+            range: Range {
+                first: 1,
+                last: LARGEST,
+                from: 0,
+                to: LARGEST,
+            },
+            progress: false,
+            file: 0,
         },
-        progress: false,
-        file: 0,
+        expected: Expected::Any,
+    }
+}
+
+// What all arguments ask for: an option may still lack its number.
+fn understood(reading: Reading) -> Asked {
+    let options = reading.options;
+    let expected = reading.expected;
+    match expected {
+        Expected::Any => Asked::Run(options),
+        Expected::Help => Asked::Help,
+        _ => Asked::Unclear,
     }
 }
 
 pub fn read() -> Asked {
     let count = os::arg_count();
-    let mut options = usual();
+    let mut reading = usual();
     let mut i = 1;
     while i < count {
-        match take(options, i) {
-            Took::Some(next, used) => {
-                options = next;
-                if count - i < used {
-                    return Asked::Unclear;
-                }
-                if used == 0 {
-                    return Asked::Unclear;
-                }
-                i += used;
-            }
-            Took::Help => return Asked::Help,
-            Took::Unclear => return Asked::Unclear,
-        }
+        let next = take(reading, i);
+        reading = next;
+        i += 1;
     }
-    Asked::Run(options)
+    understood(reading)
 }

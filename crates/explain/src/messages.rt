@@ -14,11 +14,20 @@ pub fn print_usage(fd: i32) {
         fd,
         b"milliseconds sooner or later would have decided otherwise. Without LOG, standard input is read.\n",
     );
-    io::write_all(fd, b"  --why N       speaks of committed character number N only, the first one being 1\n");
-    io::write_all(fd, b"  --lines A..B  shows events number A to B only, the first one being 1\n");
+    io::write_all(
+        fd,
+        b"  --why N       speaks of committed character number N only, the first one being 1\n",
+    );
+    io::write_all(
+        fd,
+        b"  --lines A..B  shows events number A to B only, the first one being 1\n",
+    );
     io::write_all(fd, b"  --from STAMP  shows events from that stamp on\n");
     io::write_all(fd, b"  --to STAMP    shows events up to that stamp\n");
-    io::write_all(fd, b"  --progress    says on standard error how much was read, also where that is no terminal\n");
+    io::write_all(
+        fd,
+        b"  --progress    says on standard error how much was read, also where that is no terminal\n",
+    );
     io::write_all(fd, b"Example: explain --why 3 < examples/saikai.log\n");
 }
 

@@ -1,8 +1,8 @@
 // What the screen shows: the end of the committed line, and what waits, in brackets.
-use crate::words::columns;
 use crate::words::pad;
 use crate::words::put;
 use crate::words::put_word;
+use crate::words::wider;
 use engine::Items;
 use rules::Face;
 use rules::Resting;
@@ -10,32 +10,35 @@ use rules::Resting;
 // So many words of the line are shown.
 pub const TAIL: usize = 8;
 
-// A word behind the others; the first one is forgotten.
-fn push(tail: &mut [u16], word: u16) {
-    let mut i = 0;
-    while i + 1 < tail.len() {
-        tail[i] = tail[i + 1];
-        i += 1;
-    }
-    if i < tail.len() {
-        tail[i] = word;
-    }
+// The tail of an empty line.
+pub fn empty() -> [u16; TAIL] {
+    [0; TAIL]
 }
 
-// An empty face gives no word.
-fn push_word(tail: &mut [u16], word: u16) {
-    if word != 0 {
-        push(tail, word);
+// A word behind the others; the first one is forgotten. An empty face gives no word.
+fn push(tail: [u16; TAIL], word: u16) -> [u16; TAIL] {
+    if word == 0 {
+        return tail;
     }
+    [
+        tail[1],
+        tail[2],
+        tail[3],
+        tail[4],
+        tail[5],
+        tail[6],
+        tail[7],
+        word,
+    ]
 }
 
-pub fn push_items(tail: &mut [u16], items: Items) {
+pub fn push_items(tail: [u16; TAIL], items: Items) -> [u16; TAIL] {
     match items {
-        Items::None => {}
-        Items::One(item) => push_word(tail, layout::word(item)),
+        Items::None => tail,
+        Items::One(item) => push(tail, layout::word(item)),
         Items::Two(item, other) => {
-            push_word(tail, layout::word(item));
-            push_word(tail, layout::word(other));
+            let first = push(tail, layout::word(item));
+            push(first, layout::word(other))
         }
     }
 }
@@ -63,11 +66,12 @@ fn second_waiting(resting: Resting) -> u16 {
     }
 }
 
-fn wide(word: u16) -> usize {
+// So many columns and those of a word that is shown.
+fn with_shown(used: usize, word: u16) -> usize {
     if word == 0 {
-        return 0;
+        return used;
     }
-    columns(word)
+    wider(used, word)
 }
 
 fn put_shown(out: &mut [u8], at: usize, word: u16) -> usize {
@@ -77,43 +81,59 @@ fn put_shown(out: &mut [u8], at: usize, word: u16) -> usize {
     put_word(out, at, word)
 }
 
-// The words of the line that are shown, and how many columns they take.
-fn put_tail(out: &mut [u8], at: usize, tail: &[u16]) -> usize {
-    let mut behind = at;
-    let mut i = 0;
-    while i < tail.len() {
-        behind = put_shown(out, behind, tail[i]);
-        i += 1;
-    }
-    behind
+fn put_four(out: &mut [u8], at: usize, a: u16, b: u16, c: u16, d: u16) -> usize {
+    let first = put_shown(out, at, a);
+    let second = put_shown(out, first, b);
+    let third = put_shown(out, second, c);
+    put_shown(out, third, d)
 }
 
-fn tail_columns(tail: &[u16]) -> usize {
-    let mut n = 0;
-    let mut i = 0;
-    while i < tail.len() {
-        if n < 1000 {
-            n += wide(tail[i]);
-        }
-        i += 1;
+fn columns_of_four(used: usize, a: u16, b: u16, c: u16, d: u16) -> usize {
+    with_shown(with_shown(with_shown(with_shown(used, a), b), c), d)
+}
+
+// The words of the line that are shown, and how many columns they take.
+fn put_tail(out: &mut [u8], at: usize, tail: [u16; TAIL]) -> usize {
+    let half = put_four(out, at, tail[0], tail[1], tail[2], tail[3]);
+    put_four(out, half, tail[4], tail[5], tail[6], tail[7])
+}
+
+fn tail_columns(tail: [u16; TAIL]) -> usize {
+    let half = columns_of_four(0, tail[0], tail[1], tail[2], tail[3]);
+    columns_of_four(half, tail[4], tail[5], tail[6], tail[7])
+}
+
+// What waits, in brackets.
+fn put_waiting(out: &mut [u8], at: usize, first: u16, second: u16) -> usize {
+    if first == 0 {
+        return at;
     }
-    n
+    let opened = put(out, at, b"[");
+    let one = put_shown(out, opened, first);
+    let both = put_shown(out, one, second);
+    put(out, both, b"]")
+}
+
+// The brackets take as many columns as a character.
+fn waiting_columns(used: usize, first: u16, second: u16) -> usize {
+    if first == 0 {
+        return used;
+    }
+    wider(with_shown(with_shown(used, first), second), first)
 }
 
 // The screen, padded to a column.
-pub fn put_screen(out: &mut [u8], at: usize, tail: &[u16], resting: Resting, column: usize) -> usize {
+pub fn put_screen(
+    out: &mut [u8],
+    at: usize,
+    tail: [u16; TAIL],
+    resting: Resting,
+    column: usize,
+) -> usize {
     let first = first_waiting(resting);
     let second = second_waiting(resting);
-    let mut used = tail_columns(tail);
-    let mut behind = put_tail(out, at, tail);
-    if first != 0 {
-        behind = put(out, behind, b"[");
-        behind = put_shown(out, behind, first);
-        behind = put_shown(out, behind, second);
-        behind = put(out, behind, b"]");
-        if used < 1000 {
-            used = used + 2 + wide(first) + wide(second);
-        }
-    }
+    let used = waiting_columns(tail_columns(tail), first, second);
+    let line = put_tail(out, at, tail);
+    let behind = put_waiting(out, line, first, second);
     pad(out, behind, used, column)
 }

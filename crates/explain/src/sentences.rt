@@ -287,7 +287,14 @@ fn put_not(out: &mut [u8], at: usize, away: Lag, how: &[u8], items: Items) -> us
 }
 
 // What a later event would have done.
-fn put_later(out: &mut [u8], at: usize, stamp: Stamp, turn: Stamp, overlap: bool, items: Items) -> usize {
+fn put_later(
+    out: &mut [u8],
+    at: usize,
+    stamp: Stamp,
+    turn: Stamp,
+    overlap: bool,
+    items: Items,
+) -> usize {
     let away = lag(stamp, turn);
     if overlap {
         return put_not(out, at, away, b" too early", items);
@@ -296,15 +303,29 @@ fn put_later(out: &mut [u8], at: usize, stamp: Stamp, turn: Stamp, overlap: bool
 }
 
 // What an earlier one would have done.
-fn put_sooner(out: &mut [u8], at: usize, stamp: Stamp, turn: Stamp, overlap: bool, items: Items) -> usize {
+fn put_sooner(
+    out: &mut [u8],
+    at: usize,
+    stamp: Stamp,
+    turn: Stamp,
+    overlap: bool,
+    items: Items,
+) -> usize {
     let away = lag(turn, stamp);
     if overlap {
-        return put_not(out, at, lag(waits::later(turn, Lag(1)), stamp), b" to spare", items);
+        return put_not(
+            out,
+            at,
+            lag(waits::later(turn, Lag(1)), stamp),
+            b" to spare",
+            items,
+        );
     }
     put_other(out, at, away, b" sooner: ", items)
 }
 
-fn put_margins(
+// What the same event would have done at the next stamp that decides otherwise.
+fn put_if_later(
     out: &mut [u8],
     at: usize,
     list: &[u32],
@@ -313,26 +334,38 @@ fn put_margins(
     event: Event,
     numbers: Numbers,
 ) -> usize {
-    let mut behind = at;
     let stamp = event.stamp;
-    let later = numbers.later;
-    let sooner = numbers.sooner;
-    let overlap = is_overlap(numbers.compared);
-    match later {
-        Due::Never => {}
+    let due = numbers.later;
+    let compared = numbers.compared;
+    match due {
+        Due::Never => at,
         Due::At(turn) => {
             let items = items_at(list, times, machine, event, turn);
-            behind = put_later(out, behind, stamp, turn, overlap, items);
+            put_later(out, at, stamp, turn, is_overlap(compared), items)
         }
     }
-    match sooner {
-        Due::Never => {}
+}
+
+// And at the last one before.
+fn put_if_sooner(
+    out: &mut [u8],
+    at: usize,
+    list: &[u32],
+    times: Times,
+    machine: Machine,
+    event: Event,
+    numbers: Numbers,
+) -> usize {
+    let stamp = event.stamp;
+    let due = numbers.sooner;
+    let compared = numbers.compared;
+    match due {
+        Due::Never => at,
         Due::At(turn) => {
             let items = items_at(list, times, machine, event, turn);
-            behind = put_sooner(out, behind, stamp, turn, overlap, items);
+            put_sooner(out, at, stamp, turn, is_overlap(compared), items)
         }
     }
-    behind
 }
 
 fn put_committed(out: &mut [u8], at: usize, items: Items) -> usize {
@@ -382,6 +415,22 @@ fn put_tick(out: &mut [u8], at: usize, held: u32, event: Event) -> usize {
     at
 }
 
+// What was decided, and by which numbers.
+fn put_decided(
+    out: &mut [u8],
+    at: usize,
+    resting: Resting,
+    numbers: Numbers,
+    event: Event,
+    items: Items,
+) -> usize {
+    let due = numbers.due;
+    if numbers.late {
+        return put_after_late(out, at, resting, due, event, items);
+    }
+    put_in_time(out, at, resting, numbers, event, items)
+}
+
 // The sentence of an accepted event.
 pub fn put_sentence(
     out: &mut [u8],
@@ -394,11 +443,8 @@ pub fn put_sentence(
 ) -> usize {
     let resting = machine.resting;
     let numbers = why::numbers_at(list, times, machine, event);
-    let behind = if numbers.late {
-        put_after_late(out, at, resting, numbers.due, event, items)
-    } else {
-        put_in_time(out, at, resting, numbers, event, items)
-    };
-    let told = put_tick(out, behind, machine.held, event);
-    put_margins(out, told, list, times, machine, event, numbers)
+    let first = put_decided(out, at, resting, numbers, event, items);
+    let second = put_tick(out, first, machine.held, event);
+    let third = put_if_later(out, second, list, times, machine, event, numbers);
+    put_if_sooner(out, third, list, times, machine, event, numbers)
 }

@@ -61,7 +61,11 @@ fn is_chord(face: Face) -> bool {
 }
 
 fn count_character(totals: Totals, face: Face) -> Totals {
-    let chords = if is_chord(face) { one_more(totals.chords) } else { totals.chords };
+    let chords = if is_chord(face) {
+        one_more(totals.chords)
+    } else {
+        totals.chords
+    };
     Totals {
         events: totals.events,
         committed: one_more(totals.committed),
@@ -123,115 +127,115 @@ fn away(stamp: Stamp, turn: Stamp, items: Items, other: Items) -> u64 {
     lag(turn, stamp).0
 }
 
-fn away_at(list: &[u32], times: Times, machine: Machine, event: Event, items: Items, due: Due) -> u64 {
+fn away_at(
+    list: &[u32],
+    times: Times,
+    machine: Machine,
+    event: Event,
+    items: Items,
+    due: Due,
+) -> u64 {
     let stamp = event.stamp;
     match due {
         Due::Never => NONE,
-        Due::At(turn) => away(stamp, turn, items, items_at(list, times, machine, event, turn)),
+        Due::At(turn) => away(
+            stamp,
+            turn,
+            items,
+            items_at(list, times, machine, event, turn),
+        ),
     }
 }
 
 // How many milliseconds sooner or later would have committed another character.
 pub fn margin(list: &[u32], times: Times, machine: Machine, event: Event, items: Items) -> u64 {
     let numbers = why::numbers_at(list, times, machine, event);
-    let later = away_at(list, times, machine, event, items, numbers.later);
-    let sooner = away_at(list, times, machine, event, items, numbers.sooner);
+    let behind = numbers.later;
+    let front = numbers.sooner;
+    let later = away_at(list, times, machine, event, items, behind);
+    let sooner = away_at(list, times, machine, event, items, front);
     if later < sooner { later } else { sooner }
 }
 
-// The place of the widest margin that is kept.
-fn widest(margins: &[u64]) -> usize {
-    let mut found = 0;
-    let mut most = 0;
-    let mut i = 0;
-    while i < margins.len() {
-        if most < margins[i] {
-            most = margins[i];
-            found = i;
-        }
-        i += 1;
+// A decision that was close: its margin, and the number, stamp and word of its character.
+pub struct Call {
+    pub margin: u64,
+    pub character: u64,
+    pub stamp: u64,
+    pub word: u16,
+}
+
+// No call yet.
+pub fn no_calls() -> [Call; CALLS] {
+    [Call {
+        margin: NONE,
+        character: 0,
+        stamp: 0,
+        word: 0,
+    }; CALLS]
+}
+
+fn closer(a: Call, b: Call) -> Call {
+    if b.margin < a.margin {
+        return b;
     }
-    found
+    a
 }
 
-fn keep(run: &mut [u64], at: usize, n: u64) {
-    if at < run.len() {
-        run[at] = n;
+fn farther(a: Call, b: Call) -> Call {
+    if b.margin < a.margin {
+        return a;
     }
+    b
 }
 
-fn kept(run: &[u64], at: usize) -> u64 {
-    if at < run.len() { run[at] } else { NONE }
+// The closest ones, closest first, with one more at its place; the last one is forgotten.
+pub fn note(calls: [Call; CALLS], call: Call) -> [Call; CALLS] {
+    let second = farther(calls[0], call);
+    let third = farther(calls[1], second);
+    let fourth = farther(calls[2], third);
+    let fifth = farther(calls[3], fourth);
+    [
+        closer(calls[0], call),
+        closer(calls[1], second),
+        closer(calls[2], third),
+        closer(calls[3], fourth),
+        closer(calls[4], fifth),
+    ]
 }
 
-// A decision with its margin, kept if it is among the closest: the number of its character, its stamp and its word.
-pub fn note(
-    margins: &mut [u64],
-    characters: &mut [u64],
-    stamps: &mut [u64],
-    words: &mut [u64],
-    margin: u64,
-    character: u64,
-    stamp: Stamp,
-    word: u16,
-) {
-    let at = widest(margins);
-    if margin < kept(margins, at) {
-        keep(margins, at, margin);
-        keep(characters, at, character);
-        keep(stamps, at, stamp.0);
-        keep(words, at, word as u64);
+fn put_character(out: &mut [u8], call: Call) -> usize {
+    let first = put(out, 0, b"  character ");
+    let second = put_number(out, first, call.character);
+    let third = put(out, second, b", ");
+    put_word(out, third, call.word)
+}
+
+fn put_call(out: &mut [u8], call: Call) -> usize {
+    let first = put_character(out, call);
+    let second = put(out, first, b", at ");
+    let third = put_number(out, second, call.stamp);
+    let fourth = put(out, third, b": ");
+    let fifth = put_number(out, fourth, call.margin);
+    put(out, fifth, b" ms\n")
+}
+
+fn print_call(call: Call) {
+    if NONE <= call.margin {
+        return;
     }
+    let mut out = io::buffer();
+    let at = put_call(&mut out, call);
+    print(&out, at);
 }
 
-// The place of the narrowest margin that is kept.
-fn narrowest(margins: &[u64]) -> usize {
-    let mut found = 0;
-    let mut least = NONE;
-    let mut i = 0;
-    while i < margins.len() {
-        if margins[i] < least {
-            least = margins[i];
-            found = i;
-        }
-        i += 1;
-    }
-    found
-}
-
-fn put_kept(out: &mut [u8], at: usize, word: u64) -> usize {
-    if word < 65536 {
-        return put_word(out, at, word as u16);
-    }
-    at
-}
-
-fn print_call(out: &mut [u8], margin: u64, character: u64, stamp: u64, word: u64) -> bool {
-    let mut at = put(out, 0, b"  character ");
-    at = put_number(out, at, character);
-    at = put(out, at, b", ");
-    at = put_kept(out, at, word);
-    at = put(out, at, b" at ");
-    at = put_number(out, at, stamp);
-    at = put(out, at, b": ");
-    at = put_number(out, at, margin);
-    at = put(out, at, b" ms\n");
-    print(out, at)
-}
-
-// The closest calls, narrowest first.
-pub fn print_calls(out: &mut [u8], margins: &mut [u64], characters: &[u64], stamps: &[u64], words: &[u64]) {
-    let mut n = 0;
-    while n < CALLS {
-        let at = narrowest(margins);
-        let margin = kept(margins, at);
-        if NONE <= margin {
-            return;
-        }
-        print_call(out, margin, kept(characters, at), kept(stamps, at), kept(words, at));
-        keep(margins, at, NONE);
-        n += 1;
-    }
+// The closest calls, closest first.
+pub fn print_calls(calls: [Call; CALLS]) {
+    print_call(calls[0]);
+    print_call(calls[1]);
+    print_call(calls[2]);
+    print_call(calls[3]);
+    print_call(calls[4]);
 }
 
 fn put_count(out: &mut [u8], at: usize, n: u64, name: &[u8]) -> usize {
@@ -239,11 +243,16 @@ fn put_count(out: &mut [u8], at: usize, n: u64, name: &[u8]) -> usize {
     put(out, first, name)
 }
 
-pub fn print_totals(out: &mut [u8], totals: Totals) -> bool {
-    let mut at = put_count(out, 0, totals.events, b" events; ");
-    at = put_count(out, at, totals.committed, b" committed: ");
-    at = put_count(out, at, totals.chords, b" with a thumb, ");
-    at = put_count(out, at, totals.pairs, b" of two letters, ");
-    at = put_count(out, at, totals.marks, b" marks\n");
-    print(out, at)
+fn put_totals(out: &mut [u8], totals: Totals) -> usize {
+    let first = put_count(out, 0, totals.events, b" events; ");
+    let second = put_count(out, first, totals.committed, b" committed: ");
+    let third = put_count(out, second, totals.chords, b" with a thumb, ");
+    let fourth = put_count(out, third, totals.pairs, b" of two letters, ");
+    put_count(out, fourth, totals.marks, b" marks\n")
+}
+
+pub fn print_totals(totals: Totals) {
+    let mut out = io::buffer();
+    let at = put_totals(&mut out, totals);
+    print(&out, at);
 }

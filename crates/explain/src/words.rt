@@ -24,7 +24,7 @@ pub fn put_ms(out: &mut [u8], at: usize, lag: Lag) -> usize {
 
 // Spaces up to a column; one where it is passed.
 pub fn pad(out: &mut [u8], at: usize, used: usize, column: usize) -> usize {
-    let blank = b"                                ";
+    let blank = [b' '; 32];
     if used < column {
         let more = column - used;
         if more < 32 {
@@ -34,13 +34,17 @@ pub fn pad(out: &mut [u8], at: usize, used: usize, column: usize) -> usize {
     put(out, at, b" ")
 }
 
-// How many columns a word takes: a character of the layout two, a mark `<L>` three, an empty face, `-`, one.
-pub fn columns(word: u16) -> usize {
+// So many columns and those that a word takes: a character of the layout two, a mark `<L>` three, an empty face, `-`, one. No line has
+// a thousand.
+pub fn wider(used: usize, word: u16) -> usize {
+    if 1000 <= used {
+        return used;
+    }
     match word {
-        0 => 1,
-        1 => 3,
-        2 => 3,
-        _ => 2,
+        0 => used + 1,
+        1 => used + 3,
+        2 => used + 3,
+        _ => used + 2,
     }
 }
 
