@@ -1,9 +1,12 @@
 // What the program's arguments ask for.
+use libc::STDERR_FILENO;
 
 pub enum Mode {
     Table,
     // The reason of one committed character alone, the first one having number 1.
     Why(u64),
+    Picture,
+    Margins,
 }
 
 // Which events are shown: by their number, the first one having number 1, and by their stamp.
@@ -17,6 +20,7 @@ pub struct Range {
 pub struct Options {
     pub mode: Mode,
     pub range: Range,
+    // whether standard error is told how much was read
     pub progress: bool,
     // The argument that names the log, 0 for standard input.
     pub file: usize,
@@ -285,6 +289,12 @@ fn named(options: Options, i: usize, name: &[u8]) -> Reading {
     if check::same(name, b"--to") {
         return expecting(options, Expected::To);
     }
+    if check::same(name, b"--svg") {
+        return with_mode(options, Mode::Picture);
+    }
+    if check::same(name, b"--margins") {
+        return with_mode(options, Mode::Margins);
+    }
     if check::same(name, b"--progress") {
         return with_progress(options);
     }
@@ -309,6 +319,7 @@ fn take(reading: Reading, i: usize) -> Reading {
     }
 }
 
+// Without arguments. A terminal is told how much was read.
 fn usual() -> Reading {
     Reading {
         options: Options {
@@ -319,7 +330,7 @@ fn usual() -> Reading {
                 from: 0,
                 to: LARGEST,
             },
-            progress: false,
+            progress: libc::isatty(STDERR_FILENO) == 1,
             file: 0,
         },
         expected: Expected::Any,

@@ -4,7 +4,7 @@ use libc::STDERR_FILENO;
 pub fn print_usage(fd: i32) {
     io::write_all(
         fd,
-        b"usage: explain [--lines A..B] [--from STAMP] [--to STAMP] [--why N] [--progress] [LOG]\n",
+        b"usage: explain [--lines A..B] [--from STAMP] [--to STAMP] [--why N | --svg | --margins] [--progress] [LOG]\n",
     );
     io::write_all(
         fd,
@@ -14,21 +14,52 @@ pub fn print_usage(fd: i32) {
         fd,
         b"milliseconds sooner or later would have decided otherwise. Without LOG, standard input is read.\n",
     );
-    io::write_all(
-        fd,
-        b"  --why N       speaks of committed character number N only, the first one being 1\n",
-    );
-    io::write_all(
-        fd,
-        b"  --lines A..B  shows events number A to B only, the first one being 1\n",
-    );
-    io::write_all(fd, b"  --from STAMP  shows events from that stamp on\n");
-    io::write_all(fd, b"  --to STAMP    shows events up to that stamp\n");
-    io::write_all(
-        fd,
-        b"  --progress    says on standard error how much was read, also where that is no terminal\n",
-    );
+    print_options(fd);
     io::write_all(fd, b"Example: explain --why 3 < examples/saikai.log\n");
+}
+
+fn print_options(fd: i32) {
+    io::write_all(
+        fd,
+        b"  --lines A..B  events number A to B only, the first accepted one being 1\n",
+    );
+    io::write_all(fd, b"  --from STAMP  events from that stamp on\n");
+    io::write_all(fd, b"  --to STAMP    events up to that stamp\n");
+    io::write_all(
+        fd,
+        b"  --why N       the reason of committed character or mark number N only, the first one being 1\n",
+    );
+    io::write_all(
+        fd,
+        b"  --svg         a picture of at most 256 events instead: presses, deadlines, what was committed, and by what\n",
+    );
+    io::write_all(
+        fd,
+        b"  --margins     how close the decisions were instead, and how many presses another T, J or L would have changed\n",
+    );
+    io::write_all(
+        fd,
+        b"  --progress    a line on standard error for each MiB read, also where that is no terminal\n",
+    );
+}
+
+pub fn print_progress(mib: u64) {
+    io::write_all(STDERR_FILENO, b"explain: ");
+    io::print_decimal(STDERR_FILENO, mib);
+    io::write_all(STDERR_FILENO, b" MiB read\n");
+}
+
+// More events than a picture has room for.
+pub fn print_too_many(events: u64) {
+    io::write_all(
+        STDERR_FILENO,
+        b"explain: a picture has room for 256 events, and these are ",
+    );
+    io::print_decimal(STDERR_FILENO, events);
+    io::write_all(
+        STDERR_FILENO,
+        b": choose some with --lines, --from or --to\n",
+    );
 }
 
 // Why a log is refused.

@@ -1,11 +1,11 @@
 // One event in a sentence: what was late before it, what it did, by which numbers, and what would have been a little sooner or later. Every
 // number comes from `why`, every decision from `engine`.
-use crate::words::put;
-use crate::words::put_items;
-use crate::words::put_key;
-use crate::words::put_ms;
-use crate::words::put_number;
-use crate::words::put_thumb;
+use crate::words::say;
+use crate::words::say_items;
+use crate::words::say_key;
+use crate::words::say_ms;
+use crate::words::say_number;
+use crate::words::say_thumb;
 use engine::Items;
 use engine::Times;
 use margins::Compared;
@@ -27,29 +27,66 @@ fn thumb_of(key: Key) -> Thumb {
     Thumb::Right
 }
 
+// The thumb with an article.
+fn say_the(thumb: Thumb) {
+    say(b"the ");
+    say_thumb(thumb);
+}
+
+// A press is a repeat where the key is held.
+fn say_press(held: u32, key: Key) {
+    say_key(key);
+    if held::is_held(held, key) {
+        say(b" repeated");
+        return;
+    }
+    say(b" pressed");
+}
+
+fn say_release(held: u32, key: Key) {
+    say_key(key);
+    if held::is_held(held, key) {
+        say(b" released");
+        return;
+    }
+    say(b", not held, released");
+}
+
+// Whether a thumb is set.
+fn is_set(resting: Resting, thumb: Thumb) -> bool {
+    match resting {
+        Resting::S3(other, _) => effects::same_thumb(other, thumb),
+        Resting::S4(_, _, other, _) => effects::same_thumb(other, thumb),
+        Resting::S5(other, _, _, _) => effects::same_thumb(other, thumb),
+        _ => false,
+    }
+}
+
+fn say_thumb_press(resting: Resting, thumb: Thumb) {
+    say_thumb(thumb);
+    if is_set(resting, thumb) {
+        say(b" pressed again");
+        return;
+    }
+    say(b" pressed");
+}
+
+fn say_thumb_release(thumb: Thumb) {
+    say_thumb(thumb);
+    say(b" released");
+}
+
 // What happened: `key 21 released`.
-fn put_what(out: &mut [u8], at: usize, event: Event) -> usize {
+fn say_what(held: u32, resting: Resting, event: Event) {
     let key = event.key;
     let kind = event.kind;
     match kind {
-        1 => {
-            let behind = put_key(out, at, key);
-            put(out, behind, b" pressed")
-        }
-        2 => {
-            let behind = put_key(out, at, key);
-            put(out, behind, b" released")
-        }
-        3 => {
-            let behind = put_thumb(out, at, thumb_of(key));
-            put(out, behind, b" pressed")
-        }
-        4 => {
-            let behind = put_thumb(out, at, thumb_of(key));
-            put(out, behind, b" released")
-        }
-        5 => put(out, at, b"function key pressed"),
-        _ => put(out, at, b"tick"),
+        1 => say_press(held, key),
+        2 => say_release(held, key),
+        3 => say_thumb_press(resting, thumb_of(key)),
+        4 => say_thumb_release(thumb_of(key)),
+        5 => say(b"function key pressed"),
+        _ => say(b"tick"),
     }
 }
 
@@ -64,33 +101,23 @@ fn acts_as_tick(held: u32, event: Event) -> bool {
     }
 }
 
-// The thumb with an article.
-fn put_the(out: &mut [u8], at: usize, thumb: Thumb) -> usize {
-    let behind = put(out, at, b"the ");
-    put_thumb(out, behind, thumb)
-}
-
-fn put_thumb_release(out: &mut [u8], at: usize, thumb: Thumb) -> usize {
-    let behind = put_the(out, at, thumb);
-    put(out, behind, b"'s release")
-}
-
-fn put_key_release(out: &mut [u8], at: usize, key: Key) -> usize {
-    let behind = put_key(out, at, key);
-    put(out, behind, b"'s release")
-}
-
 // What began the state that rests.
-fn put_began(out: &mut [u8], at: usize, resting: Resting) -> usize {
+fn say_began(resting: Resting) {
     match resting {
-        Resting::S1 => at,
-        Resting::S2(key, _) => put_key(out, at, key),
-        Resting::S3(thumb, _) => put_the(out, at, thumb),
-        Resting::S4(_, _, thumb, _) => put_the(out, at, thumb),
-        Resting::S5(_, _, key, _) => put_key(out, at, key),
-        Resting::S6(thumb, _, _, _, _) => put_thumb_release(out, at, thumb),
-        Resting::S7(_, _, second, _) => put_key(out, at, second),
-        Resting::S8(key, _, _, _, _) => put_key_release(out, at, key),
+        Resting::S1 => {}
+        Resting::S2(key, _) => say_key(key),
+        Resting::S3(thumb, _) => say_the(thumb),
+        Resting::S4(_, _, thumb, _) => say_the(thumb),
+        Resting::S5(_, _, key, _) => say_key(key),
+        Resting::S6(thumb, _, _, _, _) => {
+            say_the(thumb);
+            say(b"'s release");
+        }
+        Resting::S7(_, _, second, _) => say_key(second),
+        Resting::S8(key, _, _, _, _) => {
+            say_key(key);
+            say(b"'s release");
+        }
     }
 }
 
@@ -101,89 +128,170 @@ fn is_idle(resting: Resting) -> bool {
     }
 }
 
-// Whether an event releases what began the state.
-fn releases(resting: Resting, event: Event) -> bool {
-    let key = event.key;
+fn is_of_key(event: Event, key: Key) -> bool {
+    let own = event.key;
     let kind = event.kind;
+    match kind {
+        1 => waits::same_key(own, key),
+        2 => waits::same_key(own, key),
+        _ => false,
+    }
+}
+
+fn is_of_thumb(event: Event, thumb: Thumb) -> bool {
+    let own = event.key;
+    let kind = event.kind;
+    match kind {
+        3 => effects::same_thumb(thumb_of(own), thumb),
+        4 => effects::same_thumb(thumb_of(own), thumb),
+        _ => false,
+    }
+}
+
+// Whether an event is of the key or thumb whose press began the state.
+fn is_own(resting: Resting, event: Event) -> bool {
     match resting {
-        Resting::S2(down, _) => {
-            if kind == 2 {
-                return waits::same_key(key, down);
-            }
-            false
-        }
-        Resting::S3(thumb, _) => {
-            if kind == 4 {
-                return effects::same_thumb(thumb_of(key), thumb);
-            }
-            false
-        }
+        Resting::S2(key, _) => is_of_key(event, key),
+        Resting::S3(thumb, _) => is_of_thumb(event, thumb),
+        Resting::S4(_, _, thumb, _) => is_of_thumb(event, thumb),
+        Resting::S5(_, _, key, _) => is_of_key(event, key),
+        Resting::S7(_, _, second, _) => is_of_key(event, second),
         _ => false,
     }
 }
 
 // How long after what began the state: ` 20 ms after the right thumb`.
-fn put_after(out: &mut [u8], at: usize, resting: Resting, stamp: Stamp) -> usize {
+fn say_after(resting: Resting, stamp: Stamp) {
     if is_idle(resting) {
-        return at;
+        return;
     }
-    let first = put(out, at, b" ");
-    let second = put_ms(out, first, lag(margins::began(resting), stamp));
-    let third = put(out, second, b" after ");
-    put_began(out, third, resting)
+    say(b" ");
+    say_ms(lag(margins::began(resting), stamp));
+    say(b" after ");
+    say_began(resting);
 }
 
 // When the event came: after what began the state, or how long that was down.
-fn put_when(out: &mut [u8], at: usize, resting: Resting, event: Event) -> usize {
+fn say_when(resting: Resting, event: Event) {
     let stamp = event.stamp;
-    if releases(resting, event) {
-        let first = put(out, at, b" after ");
-        return put_ms(out, first, lag(margins::began(resting), stamp));
+    if is_own(resting, event) {
+        say(b" after ");
+        say_ms(lag(margins::began(resting), stamp));
+        return;
     }
-    put_after(out, at, resting, stamp)
+    say_after(resting, stamp);
 }
 
-// What stayed away until the deadline.
-fn put_missed(out: &mut [u8], at: usize, resting: Resting) -> usize {
+fn say_key_down(key: Key) {
+    say_key(key);
+    say(b" was still down");
+}
+
+// What stayed as it was until the deadline.
+fn say_missed(resting: Resting) {
     match resting {
-        Resting::S1 => at,
-        Resting::S2(_, _) => put(out, at, b"no thumb came"),
-        Resting::S3(_, _) => put(out, at, b"no key came"),
-        Resting::S4(key, _, _, _) => {
-            let behind = put_key(out, at, key);
-            put(out, behind, b" was still down")
-        }
+        Resting::S4(key, _, _, _) => say_key_down(key),
         Resting::S5(thumb, _, _, _) => {
-            let behind = put_the(out, at, thumb);
-            put(out, behind, b" was still down")
+            say_the(thumb);
+            say(b" was still down");
         }
-        Resting::S6(_, _, key, _, _) => {
-            let behind = put_key(out, at, key);
-            put(out, behind, b" was still down")
-        }
-        Resting::S7(_, _, _, _) => put(out, at, b"both keys were still down"),
-        Resting::S8(_, _, second, _, _) => {
-            let behind = put_key(out, at, second);
-            put(out, behind, b" was still down")
-        }
+        Resting::S6(_, _, key, _, _) => say_key_down(key),
+        Resting::S7(_, _, _, _) => say(b"both keys were still down"),
+        Resting::S8(_, _, second, _, _) => say_key_down(second),
+        _ => say(b"nothing followed"),
     }
 }
 
-// The line "late": `no thumb came 100 ms after key 21`.
-fn put_late(out: &mut [u8], at: usize, resting: Resting, due: Due) -> usize {
+// Whether a key or a thumb waits alone.
+fn is_alone(resting: Resting) -> bool {
+    match resting {
+        Resting::S2(_, _) => true,
+        Resting::S3(_, _) => true,
+        _ => false,
+    }
+}
+
+// A key or a thumb alone until its deadline: `nothing joined key 21 within 100 ms`.
+fn say_alone(resting: Resting, stamp: Stamp) {
+    say(b"nothing joined ");
+    say_began(resting);
+    say(b" within ");
+    say_ms(lag(margins::began(resting), stamp));
+}
+
+// The line "late": `key 21 was still down 30 ms after the right thumb`.
+fn say_late(resting: Resting, due: Due) {
     match due {
-        Due::Never => at,
+        Due::Never => {}
         Due::At(stamp) => {
-            let first = put_missed(out, at, resting);
-            put_after(out, first, resting, stamp)
+            if is_alone(resting) {
+                say_alone(resting, stamp);
+                return;
+            }
+            say_missed(resting);
+            say_after(resting, stamp);
         }
     }
 }
 
-// The gap that the other one is compared with.
-fn put_gap(out: &mut [u8], at: usize, gap: Lag) -> usize {
-    let first = put(out, at, b"; the gap before it was ");
-    put_ms(out, first, gap)
+// `, which came 30 ms after `.
+fn say_came(gap: Lag) {
+    say(b", which came ");
+    say_ms(gap);
+    say(b" after ");
+}
+
+// S4: whether a second character takes the thumb.
+fn say_taken_thumb(key: Key, a: Lag, b: Lag) {
+    say_came(a);
+    say_key(key);
+    if waits::second_character_takes_thumb(a, b) {
+        say(b"; the thumb is nearer to the second key");
+        return;
+    }
+    say(b"; the thumb is no nearer to the second key");
+}
+
+// S5: whether a second thumb takes the character.
+fn say_taken_character(thumb: Thumb, a: Lag, b: Lag) {
+    say_came(a);
+    say_the(thumb);
+    if waits::second_thumb_takes_character(a, b) {
+        say(b"; the key is no nearer to the first thumb");
+        return;
+    }
+    say(b"; the key is nearer to the first thumb");
+}
+
+// S7 and S8: whether a pair stays together.
+fn say_stays(key: Key, a: Lag, b: Lag) {
+    say_came(a);
+    say_key(key);
+    if waits::pair_stays(a, b) {
+        say(b"; the two are nearer to each other");
+        return;
+    }
+    say(b"; the two are no nearer to each other");
+}
+
+// S8: the event came after the first key's release; it is compared from the second key on.
+fn say_stays_released(key: Key, second: Key, a: Lag, b: Lag) {
+    say(b" and ");
+    say_ms(b);
+    say(b" after ");
+    say_key(second);
+    say_stays(key, a, b);
+}
+
+// The two gaps of an event between two others.
+fn say_gaps(resting: Resting, a: Lag, b: Lag) {
+    match resting {
+        Resting::S4(key, _, _, _) => say_taken_thumb(key, a, b),
+        Resting::S5(thumb, _, _, _) => say_taken_character(thumb, a, b),
+        Resting::S7(key, _, _, _) => say_stays(key, a, b),
+        Resting::S8(key, _, second, _, _) => say_stays_released(key, second, a, b),
+        _ => {}
+    }
 }
 
 // The stamp from which on the overlap suffices.
@@ -201,33 +309,44 @@ fn enough(numbers: Numbers) -> Due {
     }
 }
 
-fn put_needed(out: &mut [u8], at: usize, resting: Resting, numbers: Numbers) -> usize {
+fn say_needed(resting: Resting, numbers: Numbers) {
     match enough(numbers) {
-        Due::Never => at,
+        Due::Never => {}
         Due::At(stamp) => {
-            let first = put(out, at, b"; ");
-            let second = put_ms(out, first, lag(margins::began(resting), stamp));
-            put(out, second, b" were needed")
+            say(b"; ");
+            say_ms(lag(margins::began(resting), stamp));
+            say(b" were needed");
         }
     }
 }
 
+// S8: how much of the second key's time the first one was down.
+fn say_share(overlap: Lag, whole: Lag) {
+    say(b"; both keys were down for ");
+    say_number(overlap.0);
+    say(b" of the second one's ");
+    say_ms(whole);
+}
+
+fn say_percent(percent: u8) {
+    say(b"; ");
+    say_number(percent as u64);
+    say(b" percent were needed");
+}
+
 // What was compared.
-fn put_compared(out: &mut [u8], at: usize, resting: Resting, numbers: Numbers) -> usize {
+fn say_compared(resting: Resting, numbers: Numbers) {
     let compared = numbers.compared;
     match compared {
-        Compared::Nothing => at,
-        Compared::TakesThumb(a, _) => put_gap(out, at, a),
-        Compared::TakesCharacter(a, _) => put_gap(out, at, a),
-        Compared::Stays(a, _) => put_gap(out, at, a),
-        Compared::Overlaps(_, _, _) => put_needed(out, at, resting, numbers),
-        Compared::OverlapsAsPair(_, _, _, _) => put_needed(out, at, resting, numbers),
-        Compared::OverlapsOf(percent, b, _) => {
-            let first = put(out, at, b"; the keys were down together for ");
-            let second = put_ms(out, first, b);
-            let third = put(out, second, b", and ");
-            let fourth = put_number(out, third, percent as u64);
-            put(out, fourth, b" percent were needed")
+        Compared::Nothing => {}
+        Compared::TakesThumb(a, b) => say_gaps(resting, a, b),
+        Compared::TakesCharacter(a, b) => say_gaps(resting, a, b),
+        Compared::Stays(a, b) => say_gaps(resting, a, b),
+        Compared::Overlaps(_, _, _) => say_needed(resting, numbers),
+        Compared::OverlapsAsPair(_, _, _, _) => say_needed(resting, numbers),
+        Compared::OverlapsOf(percent, overlap, whole) => {
+            say_share(overlap, whole);
+            say_percent(percent);
         }
     }
 }
@@ -269,182 +388,146 @@ fn is_overlap(compared: Compared) -> bool {
     }
 }
 
-// `; 10 ms later: が`.
-fn put_other(out: &mut [u8], at: usize, away: Lag, when: &[u8], items: Items) -> usize {
-    let first = put(out, at, b"; ");
-    let second = put_ms(out, first, away);
-    let third = put(out, second, when);
-    put_items(out, third, items)
+pub fn is_none(items: Items) -> bool {
+    match items {
+        Items::None => true,
+        _ => false,
+    }
+}
+
+// `; が if 10 ms later`.
+fn say_other(away: Lag, when: &[u8], items: Items) {
+    say(b"; ");
+    say_items(items);
+    say(b" if ");
+    say_ms(away);
+    say(when);
+}
+
+// `, not が`.
+fn say_not(items: Items) {
+    if is_none(items) {
+        return;
+    }
+    say(b", not ");
+    say_items(items);
 }
 
 // `, not が; 10 ms too early`.
-fn put_not(out: &mut [u8], at: usize, away: Lag, how: &[u8], items: Items) -> usize {
-    let first = put(out, at, b", not ");
-    let second = put_items(out, first, items);
-    let third = put(out, second, b"; ");
-    let fourth = put_ms(out, third, away);
-    put(out, fourth, how)
+fn say_missing(away: Lag, how: &[u8], items: Items) {
+    say_not(items);
+    say(b"; ");
+    say_ms(away);
+    say(how);
 }
 
 // What a later event would have done.
-fn put_later(
-    out: &mut [u8],
-    at: usize,
-    stamp: Stamp,
-    turn: Stamp,
-    overlap: bool,
-    items: Items,
-) -> usize {
+fn say_later(stamp: Stamp, turn: Stamp, overlap: bool, items: Items) {
     let away = lag(stamp, turn);
     if overlap {
-        return put_not(out, at, away, b" too early", items);
+        say_missing(away, b" too early", items);
+        return;
     }
-    put_other(out, at, away, b" later: ", items)
+    say_other(away, b" later", items);
 }
 
 // What an earlier one would have done.
-fn put_sooner(
-    out: &mut [u8],
-    at: usize,
-    stamp: Stamp,
-    turn: Stamp,
-    overlap: bool,
-    items: Items,
-) -> usize {
+fn say_sooner(stamp: Stamp, turn: Stamp, overlap: bool, items: Items) {
     let away = lag(turn, stamp);
     if overlap {
-        return put_not(
-            out,
-            at,
-            lag(waits::later(turn, Lag(1)), stamp),
-            b" to spare",
-            items,
-        );
+        say_missing(lag(waits::later(turn, Lag(1)), stamp), b" to spare", items);
+        return;
     }
-    put_other(out, at, away, b" sooner: ", items)
+    say_other(away, b" sooner", items);
 }
 
 // What the same event would have done at the next stamp that decides otherwise.
-fn put_if_later(
-    out: &mut [u8],
-    at: usize,
-    list: &[u32],
-    times: Times,
-    machine: Machine,
-    event: Event,
-    numbers: Numbers,
-) -> usize {
+fn say_if_later(list: &[u32], times: Times, machine: Machine, event: Event, numbers: Numbers) {
     let stamp = event.stamp;
     let due = numbers.later;
     let compared = numbers.compared;
     match due {
-        Due::Never => at,
+        Due::Never => {}
         Due::At(turn) => {
             let items = items_at(list, times, machine, event, turn);
-            put_later(out, at, stamp, turn, is_overlap(compared), items)
+            say_later(stamp, turn, is_overlap(compared), items);
         }
     }
 }
 
 // And at the last one before.
-fn put_if_sooner(
-    out: &mut [u8],
-    at: usize,
-    list: &[u32],
-    times: Times,
-    machine: Machine,
-    event: Event,
-    numbers: Numbers,
-) -> usize {
+fn say_if_sooner(list: &[u32], times: Times, machine: Machine, event: Event, numbers: Numbers) {
     let stamp = event.stamp;
     let due = numbers.sooner;
     let compared = numbers.compared;
     match due {
-        Due::Never => at,
+        Due::Never => {}
         Due::At(turn) => {
             let items = items_at(list, times, machine, event, turn);
-            put_sooner(out, at, stamp, turn, is_overlap(compared), items)
+            say_sooner(stamp, turn, is_overlap(compared), items);
         }
     }
 }
 
-fn put_committed(out: &mut [u8], at: usize, items: Items) -> usize {
-    match items {
-        Items::None => at,
-        _ => {
-            let behind = put(out, at, b": ");
-            put_items(out, behind, items)
-        }
+fn say_committed(items: Items) {
+    if is_none(items) {
+        return;
     }
+    say(b": ");
+    say_items(items);
 }
 
-// What was late, and then the event itself.
-fn put_after_late(
-    out: &mut [u8],
-    at: usize,
-    resting: Resting,
-    due: Due,
-    event: Event,
-    items: Items,
-) -> usize {
-    let first = put_late(out, at, resting, due);
-    let second = put_committed(out, first, items);
-    let third = put(out, second, b"; then ");
-    put_what(out, third, event)
+// What an overlap gave, also where that is nothing yet.
+fn say_outcome(compared: Compared, items: Items) {
+    if is_overlap(compared) {
+        say(b": ");
+        say_items(items);
+        return;
+    }
+    say_committed(items);
+}
+
+// What was late, and then the event itself, at which nothing rests any more.
+fn say_after_late(machine: Machine, due: Due, event: Event, items: Items) {
+    let resting = machine.resting;
+    say_late(resting, due);
+    say_committed(items);
+    say(b"; then ");
+    say_what(machine.held, Resting::S1, event);
 }
 
 // The event in time.
-fn put_in_time(
-    out: &mut [u8],
-    at: usize,
-    resting: Resting,
-    numbers: Numbers,
-    event: Event,
-    items: Items,
-) -> usize {
-    let first = put_what(out, at, event);
-    let second = put_when(out, first, resting, event);
-    let third = put_compared(out, second, resting, numbers);
-    put_committed(out, third, items)
+fn say_in_time(machine: Machine, numbers: Numbers, event: Event, items: Items) {
+    let resting = machine.resting;
+    let compared = numbers.compared;
+    say_what(machine.held, resting, event);
+    say_when(resting, event);
+    say_compared(resting, numbers);
+    say_outcome(compared, items);
 }
 
-fn put_tick(out: &mut [u8], at: usize, held: u32, event: Event) -> usize {
+fn say_tick(held: u32, event: Event) {
     if acts_as_tick(held, event) {
-        return put(out, at, b", as a tick");
+        say(b", as a tick");
+        return;
     }
-    at
 }
 
 // What was decided, and by which numbers.
-fn put_decided(
-    out: &mut [u8],
-    at: usize,
-    resting: Resting,
-    numbers: Numbers,
-    event: Event,
-    items: Items,
-) -> usize {
+fn say_decided(machine: Machine, numbers: Numbers, event: Event, items: Items) {
     let due = numbers.due;
     if numbers.late {
-        return put_after_late(out, at, resting, due, event, items);
+        say_after_late(machine, due, event, items);
+        return;
     }
-    put_in_time(out, at, resting, numbers, event, items)
+    say_in_time(machine, numbers, event, items);
 }
 
 // The sentence of an accepted event.
-pub fn put_sentence(
-    out: &mut [u8],
-    at: usize,
-    list: &[u32],
-    times: Times,
-    machine: Machine,
-    event: Event,
-    items: Items,
-) -> usize {
-    let resting = machine.resting;
+pub fn say_sentence(list: &[u32], times: Times, machine: Machine, event: Event, items: Items) {
     let numbers = why::numbers_at(list, times, machine, event);
-    let first = put_decided(out, at, resting, numbers, event, items);
-    let second = put_tick(out, first, machine.held, event);
-    let third = put_if_later(out, second, list, times, machine, event, numbers);
-    put_if_sooner(out, third, list, times, machine, event, numbers)
+    say_decided(machine, numbers, event, items);
+    say_tick(machine.held, event);
+    say_if_later(list, times, machine, event, numbers);
+    say_if_sooner(list, times, machine, event, numbers);
 }

@@ -1,9 +1,9 @@
 // What was committed in all, and the closest calls: the decisions that the fewest milliseconds would have turned.
-use crate::rows::print;
+use crate::sentences::is_none;
 use crate::sentences::items_at;
-use crate::words::put;
-use crate::words::put_number;
-use crate::words::put_word;
+use crate::words::say;
+use crate::words::say_number;
+use crate::words::say_word;
 use engine::Items;
 use engine::Times;
 use margins::Due;
@@ -23,6 +23,8 @@ pub const NONE: u64 = 1_000_000_000_000_000;
 // How much was committed.
 pub struct Totals {
     pub events: u64,
+    // of them in the range
+    pub shown: u64,
     pub committed: u64,
     pub chords: u64,
     pub marks: u64,
@@ -32,6 +34,7 @@ pub struct Totals {
 pub fn nothing() -> Totals {
     Totals {
         events: 0,
+        shown: 0,
         committed: 0,
         chords: 0,
         marks: 0,
@@ -39,13 +42,18 @@ pub fn nothing() -> Totals {
     }
 }
 
-fn one_more(n: u64) -> u64 {
+pub fn one_more(n: u64) -> u64 {
     if n < NONE { n + 1 } else { n }
 }
 
-pub fn count_event(totals: Totals) -> Totals {
+pub fn count_event(totals: Totals, shown: bool) -> Totals {
     Totals {
         events: one_more(totals.events),
+        shown: if shown {
+            one_more(totals.shown)
+        } else {
+            totals.shown
+        },
         committed: totals.committed,
         chords: totals.chords,
         marks: totals.marks,
@@ -68,6 +76,7 @@ fn count_character(totals: Totals, face: Face) -> Totals {
     };
     Totals {
         events: totals.events,
+        shown: totals.shown,
         committed: one_more(totals.committed),
         chords: chords,
         marks: totals.marks,
@@ -80,6 +89,7 @@ fn count_item(totals: Totals, item: Item) -> Totals {
         Item::Character(_, face) => count_character(totals, face),
         Item::Mark(_) => Totals {
             events: totals.events,
+            shown: totals.shown,
             committed: one_more(totals.committed),
             chords: totals.chords,
             marks: one_more(totals.marks),
@@ -87,6 +97,7 @@ fn count_item(totals: Totals, item: Item) -> Totals {
         },
         Item::Together(_, _, _) => Totals {
             events: totals.events,
+            shown: totals.shown,
             committed: one_more(totals.committed),
             chords: totals.chords,
             marks: totals.marks,
@@ -114,11 +125,10 @@ pub fn first_word(items: Items) -> u16 {
 
 // How far away another stamp is, if the event would have committed another character there.
 fn away(stamp: Stamp, turn: Stamp, items: Items, other: Items) -> u64 {
-    let word = first_word(other);
-    if word == 0 {
+    if is_none(other) {
         return NONE;
     }
-    if word == first_word(items) {
+    if first_word(other) == first_word(items) {
         return NONE;
     }
     if waits::before(stamp, turn) {
@@ -204,33 +214,31 @@ pub fn note(calls: [Call; CALLS], call: Call) -> [Call; CALLS] {
     ]
 }
 
-fn put_character(out: &mut [u8], call: Call) -> usize {
-    let first = put(out, 0, b"  character ");
-    let second = put_number(out, first, call.character);
-    let third = put(out, second, b", ");
-    put_word(out, third, call.word)
-}
-
-fn put_call(out: &mut [u8], call: Call) -> usize {
-    let first = put_character(out, call);
-    let second = put(out, first, b", at ");
-    let third = put_number(out, second, call.stamp);
-    let fourth = put(out, third, b": ");
-    let fifth = put_number(out, fourth, call.margin);
-    put(out, fifth, b" ms\n")
+fn is_call(call: Call) -> bool {
+    call.margin < NONE
 }
 
 fn print_call(call: Call) {
-    if NONE <= call.margin {
-        return;
+    if is_call(call) {
+        say(b"  ");
+        say_number(call.margin);
+        say(b" ms: character ");
+        say_number(call.character);
+        say(b", ");
+        say_word(call.word);
+        say(b", at ");
+        say_number(call.stamp);
+        say(b"\n");
     }
-    let mut out = io::buffer();
-    let at = put_call(&mut out, call);
-    print(&out, at);
 }
 
 // The closest calls, closest first.
 pub fn print_calls(calls: [Call; CALLS]) {
+    if is_call(calls[0]) {
+        say(
+            b"closest calls, by how much sooner or later would have committed another character:\n",
+        );
+    }
     print_call(calls[0]);
     print_call(calls[1]);
     print_call(calls[2]);
@@ -238,21 +246,30 @@ pub fn print_calls(calls: [Call; CALLS]) {
     print_call(calls[4]);
 }
 
-fn put_count(out: &mut [u8], at: usize, n: u64, name: &[u8]) -> usize {
-    let first = put_number(out, at, n);
-    put(out, first, name)
-}
-
-fn put_totals(out: &mut [u8], totals: Totals) -> usize {
-    let first = put_count(out, 0, totals.events, b" events; ");
-    let second = put_count(out, first, totals.committed, b" committed: ");
-    let third = put_count(out, second, totals.chords, b" with a thumb, ");
-    let fourth = put_count(out, third, totals.pairs, b" of two letters, ");
-    put_count(out, fourth, totals.marks, b" marks\n")
+fn say_count(n: u64, name: &[u8]) {
+    say_number(n);
+    say(name);
 }
 
 pub fn print_totals(totals: Totals) {
-    let mut out = io::buffer();
-    let at = put_totals(&mut out, totals);
-    print(&out, at);
+    say_count(totals.events, b" events accepted; ");
+    say_count(totals.committed, b" committed: ");
+    say_count(totals.chords, b" with a thumb, ");
+    say_count(totals.pairs, b" of two letters, ");
+    say_count(totals.marks, b" marks\n");
+}
+
+// What waits, or which record was refused, as `play` says it.
+pub fn print_status(number: u32, waiting: u32, offset: usize) {
+    if number == 0 {
+        say(b"waiting ");
+        say_number(waiting as u64);
+        say(b"\n");
+        return;
+    }
+    say(b"refused ");
+    say_number(number as u64);
+    say(b" at ");
+    say_number(offset as u64);
+    say(b"\n");
 }

@@ -1,6 +1,6 @@
-// Words and numbers of an explanation, put at a place of a lent run; each answers the place behind what it put. The run has room for the
-// longest line: where something did not fit it would be missing, and nothing else would happen.
+// Words and numbers of an explanation on standard output.
 use engine::Items;
+use libc::STDOUT_FILENO;
 use margins::Due;
 use rules::Event;
 use rules::Item;
@@ -9,29 +9,65 @@ use rules::Lag;
 use rules::Stamp;
 use rules::Thumb;
 
-pub fn put(out: &mut [u8], at: usize, bytes: &[u8]) -> usize {
-    status_line::put_bytes(out, at, bytes)
+pub fn say(bytes: &[u8]) {
+    io::write_all(STDOUT_FILENO, bytes);
 }
 
-pub fn put_number(out: &mut [u8], at: usize, n: u64) -> usize {
-    status_line::put_number(out, at, n)
+// The front of some bytes, if there are so many.
+fn say_front(bytes: &[u8], n: usize) {
+    if n <= bytes.len() {
+        io::write_all(STDOUT_FILENO, &bytes[..n]);
+    }
 }
 
-pub fn put_ms(out: &mut [u8], at: usize, lag: Lag) -> usize {
-    let behind = put_number(out, at, lag.0);
-    put(out, behind, b" ms")
+pub fn say_number(n: u64) {
+    io::print_decimal(STDOUT_FILENO, n);
+}
+
+// The columns of a number, 11 for one that has more.
+fn columns_of(n: u64) -> usize {
+    if n < 1000 {
+        return if n < 10 {
+            1
+        } else {
+            if n < 100 { 2 } else { 3 }
+        };
+    }
+    if n < 1_000_000 {
+        return if n < 10_000 {
+            4
+        } else {
+            if n < 100_000 { 5 } else { 6 }
+        };
+    }
+    if n < 1_000_000_000 {
+        return if n < 10_000_000 {
+            7
+        } else {
+            if n < 100_000_000 { 8 } else { 9 }
+        };
+    }
+    if n < 10_000_000_000 { 10 } else { 11 }
+}
+
+pub fn say_ms(lag: Lag) {
+    say_number(lag.0);
+    say(b" ms");
+}
+
+// A byte so many times, at most 64.
+pub fn say_many(byte: u8, n: usize) {
+    let bytes = [byte; 64];
+    say_front(&bytes, n);
 }
 
 // Spaces up to a column; one where it is passed.
-pub fn pad(out: &mut [u8], at: usize, used: usize, column: usize) -> usize {
-    let blank = [b' '; 32];
+pub fn pad(used: usize, column: usize) {
     if used < column {
-        let more = column - used;
-        if more < 32 {
-            return put(out, at, &blank[..more]);
-        }
+        say_many(b' ', column - used);
+        return;
     }
-    put(out, at, b" ")
+    say(b" ");
 }
 
 // So many columns and those that a word takes: a character of the layout two, a mark `<L>` three, an empty face, `-`, one. No line has
@@ -48,81 +84,100 @@ pub fn wider(used: usize, word: u16) -> usize {
     }
 }
 
-pub fn put_thumb(out: &mut [u8], at: usize, thumb: Thumb) -> usize {
+pub fn say_thumb(thumb: Thumb) {
     match thumb {
-        Thumb::Left => put(out, at, b"left thumb"),
-        Thumb::Right => put(out, at, b"right thumb"),
+        Thumb::Left => say(b"left thumb"),
+        Thumb::Right => say(b"right thumb"),
     }
 }
 
-pub fn put_key(out: &mut [u8], at: usize, key: Key) -> usize {
-    let behind = put(out, at, b"key ");
-    put_number(out, behind, key.0 as u64)
+pub fn say_key(key: Key) {
+    say(b"key ");
+    say_number(key.0 as u64);
 }
 
 // A word as it is printed; an empty face as `-`.
-pub fn put_word(out: &mut [u8], at: usize, word: u16) -> usize {
+pub fn say_word(word: u16) {
+    let mut bytes = [b'-'; 4];
     if word == 0 {
-        return put(out, at, b"-");
+        say_front(&bytes, 1);
+        return;
     }
-    text::put(out, at, word)
+    let n = text::put(&mut bytes, 0, word);
+    say_front(&bytes, n);
 }
 
-pub fn put_item(out: &mut [u8], at: usize, item: Item) -> usize {
-    put_word(out, at, layout::word(item))
+// An item in a sentence.
+fn say_item(item: Item) {
+    let word = layout::word(item);
+    if word == 0 {
+        say(b"an empty face");
+        return;
+    }
+    say_word(word);
 }
 
-pub fn put_items(out: &mut [u8], at: usize, items: Items) -> usize {
+pub fn say_items(items: Items) {
     match items {
-        Items::None => put(out, at, b"nothing"),
-        Items::One(item) => put_item(out, at, item),
+        Items::None => say(b"nothing yet"),
+        Items::One(item) => say_item(item),
         Items::Two(item, other) => {
-            let behind = put_item(out, at, item);
-            put_item(out, behind, other)
+            say_item(item);
+            say_item(other);
         }
     }
 }
 
-// A key, a thumb or `fn`, as document 01 writes it.
-fn put_named(out: &mut [u8], at: usize, event: Event) -> usize {
+// What a release has behind it.
+fn say_up(used: usize) {
+    say(b" up");
+    pad(used, 6);
+}
+
+fn say_side(key: Key) {
+    if key.0 == 0 {
+        say(b"L");
+        return;
+    }
+    say(b"R");
+}
+
+// An event without its stamp, in nine columns: `21`, `21 up`, `R`, `R up`, `fn`, `tick`.
+pub fn say_event(event: Event) {
     let key = event.key;
     let kind = event.kind;
     match kind {
-        1 => put_number(out, at, key.0 as u64),
-        2 => put_number(out, at, key.0 as u64),
-        3 => put_side(out, at, key),
-        4 => put_side(out, at, key),
-        5 => put(out, at, b"fn"),
-        _ => put(out, at, b"tick"),
+        1 => {
+            say_number(key.0 as u64);
+            pad(columns_of(key.0 as u64), 9);
+        }
+        2 => {
+            say_number(key.0 as u64);
+            say_up(columns_of(key.0 as u64));
+        }
+        3 => {
+            say_side(key);
+            pad(1, 9);
+        }
+        4 => {
+            say_side(key);
+            say_up(1);
+        }
+        5 => say(b"fn       "),
+        _ => say(b"tick     "),
     }
 }
 
-fn put_side(out: &mut [u8], at: usize, key: Key) -> usize {
-    if key.0 == 0 {
-        return put(out, at, b"L");
-    }
-    put(out, at, b"R")
-}
-
-// An event without its stamp: `21`, `21 up`, `R`, `R up`, `fn`, `tick`.
-pub fn put_event(out: &mut [u8], at: usize, event: Event) -> usize {
-    let kind = event.kind;
-    let behind = put_named(out, at, event);
-    match kind {
-        2 => put(out, behind, b" up"),
-        4 => put(out, behind, b" up"),
-        _ => behind,
-    }
-}
-
-pub fn put_stamp(out: &mut [u8], at: usize, stamp: Stamp) -> usize {
-    put_number(out, at, stamp.0)
+// A stamp in eleven columns.
+pub fn say_stamp(stamp: Stamp) {
+    say_number(stamp.0);
+    pad(columns_of(stamp.0), 11);
 }
 
 // A deadline, or `-`.
-pub fn put_due(out: &mut [u8], at: usize, due: Due) -> usize {
+pub fn say_due(due: Due) {
     match due {
-        Due::Never => put(out, at, b"-"),
-        Due::At(stamp) => put_stamp(out, at, stamp),
+        Due::Never => say(b"-          "),
+        Due::At(stamp) => say_stamp(stamp),
     }
 }

@@ -10,4 +10,10 @@ slice-aggregate-take-event c = sym (length-take-le _ _ (search needs))
 
 pub take-with-pairs-spec : {M : Type 1} → statement M
 take-with-pairs-spec =
-    tie.close (tie.spec slice-aggregate-take-event (λ c κs. search needs) (λ c. search needs) (λ c. search needs))
+    tie.close
+    (tie.spec
+    slice-aggregate-take-event
+    (λ c κs. search needs)
+    (λ c. search needs)
+    (λ c. search needs)
+    (λ c. search needs))
