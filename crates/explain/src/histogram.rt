@@ -1,5 +1,6 @@
 // How many decisions have which margin.
 use crate::summary::NONE;
+use crate::summary::NOT_JUDGED;
 use crate::summary::one_more;
 use crate::words::say;
 use crate::words::say_many;
@@ -14,7 +15,7 @@ pub fn empty() -> [u64; BARS] {
     [0; BARS]
 }
 
-// The bar of a margin.
+// The bar of a margin, none where nothing was decided.
 fn bar_of(margin: u64) -> usize {
     if margin < 2 {
         return 0;
@@ -40,7 +41,7 @@ fn bar_of(margin: u64) -> usize {
     if margin < NONE {
         return 7;
     }
-    8
+    if margin < NOT_JUDGED { 8 } else { BARS }
 }
 
 pub fn count(counts: [u64; BARS], margin: u64) -> [u64; BARS] {

@@ -4,42 +4,18 @@ use libc::STDERR_FILENO;
 pub fn print_usage(fd: i32) {
     io::write_all(
         fd,
-        b"usage: explain [--lines A..B] [--from STAMP] [--to STAMP] [--why N | --svg | --margins] [--progress] [LOG]\n",
-    );
-    io::write_all(
-        fd,
-        b"Prints, for each event of a log, what it did and why: the numbers that were compared, and how many\n",
-    );
-    io::write_all(
-        fd,
-        b"milliseconds sooner or later would have decided otherwise. Without LOG, standard input is read.\n",
-    );
-    print_options(fd);
-    io::write_all(fd, b"Example: explain --why 3 < examples/saikai.log\n");
-}
-
-fn print_options(fd: i32) {
-    io::write_all(
-        fd,
-        b"  --lines A..B  events number A to B only, the first accepted one being 1\n",
-    );
-    io::write_all(fd, b"  --from STAMP  events from that stamp on\n");
-    io::write_all(fd, b"  --to STAMP    events up to that stamp\n");
-    io::write_all(
-        fd,
-        b"  --why N       the reason of committed character or mark number N only, the first one being 1\n",
-    );
-    io::write_all(
-        fd,
-        b"  --svg         a picture of at most 256 events instead: presses, deadlines, what was committed, and by what\n",
-    );
-    io::write_all(
-        fd,
-        b"  --margins     how close the decisions were instead, and how many presses another T, J or L would have changed\n",
-    );
-    io::write_all(
-        fd,
-        b"  --progress    a line on standard error for each MiB read, also where that is no terminal\n",
+        b"usage: explain [--lines A..B] [--from STAMP] [--to STAMP] [--why N | --svg | --margins] [--progress] [LOG]
+Prints, for each event of a log, what it did and why: the numbers that were compared, and how many
+milliseconds sooner or later would have decided otherwise. Without LOG, standard input is read.
+  --lines A..B  events number A to B only, the first accepted one being 1
+  --from STAMP  events from that stamp on
+  --to STAMP    events up to that stamp
+  --why N       the reason of committed character or mark number N only, the first one being 1
+  --svg         a picture of at most 256 events instead: presses, deadlines, what was committed, and by what
+  --margins     how close the decisions were instead, and how many presses another T, J or L would have changed
+  --progress    a line on standard error for each MiB read, also where that is no terminal
+Example: explain --why 3 < examples/saikai.log
+",
     );
 }
 

@@ -119,11 +119,22 @@ fn began_field(resting: Resting, event: Event) -> u64 {
     }
 }
 
-fn keep_event(rows: &mut [u64], i: u64, event: Event) {
+// An event's kind; a repeat is drawn as a tick, which is not drawn.
+fn kind_field(held: u32, event: Event) -> u64 {
+    let key = event.key;
+    if event.kind == 1 {
+        if held::is_held(held, key) {
+            return 6;
+        }
+    }
+    event.kind as u64
+}
+
+fn keep_event(rows: &mut [u64], i: u64, held: u32, event: Event) {
     let stamp = event.stamp;
     let key = event.key;
     set(rows, i, STAMP, stamp.0);
-    set(rows, i, KIND, event.kind as u64);
+    set(rows, i, KIND, kind_field(held, event));
     set(rows, i, KEY, key.0 as u64);
 }
 
@@ -145,7 +156,7 @@ pub fn keep(
     after: Machine,
 ) {
     let resting = machine.resting;
-    keep_event(rows, i, event);
+    keep_event(rows, i, machine.held, event);
     keep_items(
         rows,
         i,
@@ -363,8 +374,8 @@ fn print_deadline(rows: &[u64], i: u64, span: Span) {
     if due == 0 {
         return;
     }
-    if due <= span.last {
-        let x = across(span, due);
+    if due - 1 <= span.last {
+        let x = across(span, due - 1);
         print_line(b"due", x, ROW_DUE - 10, x, ROW_DUE + 4);
     }
 }
@@ -412,38 +423,33 @@ fn print_events(rows: &[u64], count: u64, span: Span) {
     }
 }
 
-fn print_names() {
-    print_words(b"small", 4, ROW_D + 13, b"row D");
-    print_words(b"small", 4, ROW_C + 13, b"row C");
-    print_words(b"small", 4, ROW_B + 13, b"row B");
-    print_words(b"small", 4, ROW_L + 13, b"left thumb");
-    print_words(b"small", 4, ROW_R + 13, b"right thumb");
-    print_words(b"small", 4, ROW_DUE + 2, b"deadlines");
-    print_words(b"small", 4, ROW_LINE - 4, b"committed");
-    print_words(b"small", 4, ROW_GAP, b"decided by");
-    print_words(b"small", 4, ROW_MARGIN + 12, b"margin");
-}
-
-fn print_scale(span: Span) {
-    print_line(b"axis", LEFT, 26, RIGHT, 26);
+fn print_ends(span: Span) {
     print_time(b"small", LEFT, 18, span.first);
     print_time(b"small end", RIGHT, 18, span.last);
 }
 
+// What every picture has: how it looks, and the names of its rows.
 fn print_head() {
     say(
-        b"<svg xmlns=\"http://www.w3.org/2000/svg\" viewBox=\"0 0 1200 280\" width=\"1200\" height=\"280\">\n<style>\n",
+        b"<svg xmlns=\"http://www.w3.org/2000/svg\" viewBox=\"0 0 1200 280\" width=\"1200\" height=\"280\">
+<style>
+text{font-family:sans-serif;font-size:13px}.line{font-size:20px;text-anchor:middle}.end{text-anchor:end}
+.small{font-size:12px;fill:#555}.middle{text-anchor:middle}.margin{font-size:12px;fill:#b00;text-anchor:middle}
+.gap{stroke:#b00;stroke-width:3}.letter{fill:#8ab4e8}.thumb{fill:#f0b37e}.due{stroke:#333;stroke-width:2}.axis{stroke:#999}
+</style>
+<rect width=\"1200\" height=\"280\" fill=\"#fff\"/>
+<line class=\"axis\" x1=\"84\" y1=\"26\" x2=\"1170\" y2=\"26\"/>
+<text class=\"small\" x=\"4\" y=\"49\">row D</text>
+<text class=\"small\" x=\"4\" y=\"75\">row C</text>
+<text class=\"small\" x=\"4\" y=\"101\">row B</text>
+<text class=\"small\" x=\"4\" y=\"131\">left thumb</text>
+<text class=\"small\" x=\"4\" y=\"157\">right thumb</text>
+<text class=\"small\" x=\"4\" y=\"176\">deadlines</text>
+<text class=\"small\" x=\"4\" y=\"212\">committed</text>
+<text class=\"small\" x=\"4\" y=\"236\">decided by</text>
+<text class=\"small\" x=\"4\" y=\"264\">margin</text>
+",
     );
-    say(
-        b"text{font-family:sans-serif;font-size:13px}.line{font-size:20px;text-anchor:middle}.end{text-anchor:end}\n",
-    );
-    say(
-        b".small{font-size:12px;fill:#555}.middle{text-anchor:middle}.margin{font-size:12px;fill:#b00;text-anchor:middle}\n",
-    );
-    say(
-        b".gap{stroke:#b00;stroke-width:3}.letter{fill:#8ab4e8}.thumb{fill:#f0b37e}.due{stroke:#333;stroke-width:2}.axis{stroke:#999}\n",
-    );
-    say(b"</style>\n<rect width=\"1200\" height=\"280\" fill=\"#fff\"/>\n");
 }
 
 // The picture of so many events.
@@ -459,8 +465,7 @@ pub fn print_picture(rows: &[u64], count: u64) {
         last: last,
     };
     print_head();
-    print_names();
-    print_scale(span);
+    print_ends(span);
     print_events(rows, count, span);
     say(b"</svg>\n");
 }

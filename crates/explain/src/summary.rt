@@ -20,6 +20,9 @@ pub const CALLS: usize = 5;
 // No margin: nothing would have turned the decision.
 pub const NONE: u64 = 1_000_000_000_000_000;
 
+// No decision.
+pub const NOT_JUDGED: u64 = 1_000_000_000_000_001;
+
 // How much was committed.
 pub struct Totals {
     pub events: u64,
