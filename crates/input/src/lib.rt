@@ -32,11 +32,19 @@ pub enum Asked {
     Unclear,
 }
 
-// One read. It brings what is there, so that a slow line is not waited for; into a buffer of no bytes it brings nothing, as at the end.
+// One read of standard input. It brings what is there, so that a slow line is not waited for; into a buffer of no bytes it brings nothing,
+// as at the end.
 pub fn read_piece(buf: &mut [u8]) -> Piece
     ensures { λ r. ⌜ Taken (length (now (buf .entry))) r ⌝ }
 {
-    let got = libc::read(STDIN_FILENO, buf);
+    read_from(STDIN_FILENO, buf)
+}
+
+// The same of an open file.
+pub fn read_from(fd: i32, buf: &mut [u8]) -> Piece
+    ensures { λ r. ⌜ Taken (length (now (buf .entry))) r ⌝ }
+{
+    let got = libc::read(fd, buf);
     if got < 0 {
         return Piece::Failed;
     }

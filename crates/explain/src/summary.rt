@@ -1,0 +1,278 @@
+// What was committed in all, and the closest calls: the decisions that the fewest milliseconds would have turned.
+use crate::sentences::is_none;
+use crate::sentences::items_at;
+use crate::words::say;
+use crate::words::say_number;
+use crate::words::say_word;
+use engine::Items;
+use engine::Times;
+use margins::Due;
+use rules::Event;
+use rules::Face;
+use rules::Item;
+use rules::Machine;
+use rules::Stamp;
+use waits::lag;
+
+// So many closest calls are kept.
+pub const CALLS: usize = 5;
+
+// No margin: nothing would have turned the decision.
+pub const NONE: u64 = 1_000_000_000_000_000;
+
+// No decision.
+pub const NOT_JUDGED: u64 = 1_000_000_000_000_001;
+
+// How much was committed.
+pub struct Totals {
+    pub events: u64,
+    // of them in the range
+    pub shown: u64,
+    pub committed: u64,
+    pub chords: u64,
+    pub marks: u64,
+    pub pairs: u64,
+}
+
+pub fn nothing() -> Totals {
+    Totals {
+        events: 0,
+        shown: 0,
+        committed: 0,
+        chords: 0,
+        marks: 0,
+        pairs: 0,
+    }
+}
+
+pub fn one_more(n: u64) -> u64 {
+    if n < NONE { n + 1 } else { n }
+}
+
+pub fn count_event(totals: Totals, shown: bool) -> Totals {
+    Totals {
+        events: one_more(totals.events),
+        shown: if shown {
+            one_more(totals.shown)
+        } else {
+            totals.shown
+        },
+        committed: totals.committed,
+        chords: totals.chords,
+        marks: totals.marks,
+        pairs: totals.pairs,
+    }
+}
+
+fn is_chord(face: Face) -> bool {
+    match face {
+        Face::Plain => false,
+        Face::With(_) => true,
+    }
+}
+
+fn count_character(totals: Totals, face: Face) -> Totals {
+    let chords = if is_chord(face) {
+        one_more(totals.chords)
+    } else {
+        totals.chords
+    };
+    Totals {
+        events: totals.events,
+        shown: totals.shown,
+        committed: one_more(totals.committed),
+        chords: chords,
+        marks: totals.marks,
+        pairs: totals.pairs,
+    }
+}
+
+fn count_item(totals: Totals, item: Item) -> Totals {
+    match item {
+        Item::Character(_, face) => count_character(totals, face),
+        Item::Mark(_) => Totals {
+            events: totals.events,
+            shown: totals.shown,
+            committed: one_more(totals.committed),
+            chords: totals.chords,
+            marks: one_more(totals.marks),
+            pairs: totals.pairs,
+        },
+        Item::Together(_, _, _) => Totals {
+            events: totals.events,
+            shown: totals.shown,
+            committed: one_more(totals.committed),
+            chords: totals.chords,
+            marks: totals.marks,
+            pairs: one_more(totals.pairs),
+        },
+    }
+}
+
+pub fn count_items(totals: Totals, items: Items) -> Totals {
+    match items {
+        Items::None => totals,
+        Items::One(item) => count_item(totals, item),
+        Items::Two(item, other) => count_item(count_item(totals, item), other),
+    }
+}
+
+// The word of the first item, 0 for none.
+pub fn first_word(items: Items) -> u16 {
+    match items {
+        Items::None => 0,
+        Items::One(item) => layout::word(item),
+        Items::Two(item, _) => layout::word(item),
+    }
+}
+
+// How far away another stamp is, if the event would have committed another character there.
+fn away(stamp: Stamp, turn: Stamp, items: Items, other: Items) -> u64 {
+    if is_none(other) {
+        return NONE;
+    }
+    if first_word(other) == first_word(items) {
+        return NONE;
+    }
+    if waits::before(stamp, turn) {
+        return lag(stamp, turn).0;
+    }
+    lag(turn, stamp).0
+}
+
+fn away_at(
+    list: &[u32],
+    times: Times,
+    machine: Machine,
+    event: Event,
+    items: Items,
+    due: Due,
+) -> u64 {
+    let stamp = event.stamp;
+    match due {
+        Due::Never => NONE,
+        Due::At(turn) => away(
+            stamp,
+            turn,
+            items,
+            items_at(list, times, machine, event, turn),
+        ),
+    }
+}
+
+// How many milliseconds sooner or later would have committed another character.
+pub fn margin(list: &[u32], times: Times, machine: Machine, event: Event, items: Items) -> u64 {
+    let numbers = why::numbers_at(list, times, machine, event);
+    let behind = numbers.later;
+    let front = numbers.sooner;
+    let later = away_at(list, times, machine, event, items, behind);
+    let sooner = away_at(list, times, machine, event, items, front);
+    if later < sooner { later } else { sooner }
+}
+
+// A decision that was close: its margin, and the number, stamp and word of its character.
+pub struct Call {
+    pub margin: u64,
+    pub character: u64,
+    pub stamp: u64,
+    pub word: u16,
+}
+
+// No call yet.
+pub fn no_calls() -> [Call; CALLS] {
+    [Call {
+        margin: NONE,
+        character: 0,
+        stamp: 0,
+        word: 0,
+    }; CALLS]
+}
+
+fn closer(a: Call, b: Call) -> Call {
+    if b.margin < a.margin {
+        return b;
+    }
+    a
+}
+
+fn farther(a: Call, b: Call) -> Call {
+    if b.margin < a.margin {
+        return a;
+    }
+    b
+}
+
+// The closest ones, closest first, with one more at its place; the last one is forgotten.
+pub fn note(calls: [Call; CALLS], call: Call) -> [Call; CALLS] {
+    let second = farther(calls[0], call);
+    let third = farther(calls[1], second);
+    let fourth = farther(calls[2], third);
+    let fifth = farther(calls[3], fourth);
+    [
+        closer(calls[0], call),
+        closer(calls[1], second),
+        closer(calls[2], third),
+        closer(calls[3], fourth),
+        closer(calls[4], fifth),
+    ]
+}
+
+fn is_call(call: Call) -> bool {
+    call.margin < NONE
+}
+
+fn print_call(call: Call) {
+    if is_call(call) {
+        say(b"  ");
+        say_number(call.margin);
+        say(b" ms: character ");
+        say_number(call.character);
+        say(b", ");
+        say_word(call.word);
+        say(b", at ");
+        say_number(call.stamp);
+        say(b"\n");
+    }
+}
+
+// The closest calls, closest first.
+pub fn print_calls(calls: [Call; CALLS]) {
+    if is_call(calls[0]) {
+        say(
+            b"closest calls, by how much sooner or later would have committed another character:\n",
+        );
+    }
+    print_call(calls[0]);
+    print_call(calls[1]);
+    print_call(calls[2]);
+    print_call(calls[3]);
+    print_call(calls[4]);
+}
+
+fn say_count(n: u64, name: &[u8]) {
+    say_number(n);
+    say(name);
+}
+
+pub fn print_totals(totals: Totals) {
+    say_count(totals.events, b" events accepted; ");
+    say_count(totals.committed, b" committed: ");
+    say_count(totals.chords, b" with a thumb, ");
+    say_count(totals.pairs, b" of two letters, ");
+    say_count(totals.marks, b" marks\n");
+}
+
+// What waits, or which record was refused, as `play` says it.
+pub fn print_status(number: u32, waiting: u32, offset: usize) {
+    if number == 0 {
+        say(b"waiting ");
+        say_number(waiting as u64);
+        say(b"\n");
+        return;
+    }
+    say(b"refused ");
+    say_number(number as u64);
+    say(b" at ");
+    say_number(offset as u64);
+    say(b"\n");
+}
