@@ -13,6 +13,7 @@
 
 mod face;
 
+use std::mem::discriminant;
 use std::process::ExitCode;
 
 use trabeculon_model::arguments::{self, named};
@@ -20,7 +21,7 @@ use trabeculon_model::damage::random_damaged;
 use trabeculon_model::explain::{explain, Explained, Slips, EXPLAIN_SLIPS, KINDS};
 use trabeculon_model::generate::{open, random_case, right_settings, typed_log};
 use trabeculon_model::log::{log_with, RawSettings};
-use trabeculon_model::model::{step_with, Event, Item, Machine, Resting, SLIPS};
+use trabeculon_model::model::{step_with, Event, Machine, SLIPS};
 use trabeculon_model::notation;
 use trabeculon_model::pairs::{pair, Lent, NO_PAIRS};
 use trabeculon_model::program::{cut_hex, run};
@@ -203,27 +204,39 @@ fn every_turn() -> Vec<Vec<u8>> {
 }
 
 /// The events of a log: key 5 is held, then each state, each event in it, at and beside
-/// each stamp where it turns, and then all is let go.
+/// each stamp where it turns, and then the other keys are let go.
 fn tries(raw: RawSettings, lent: &Lent) -> Vec<Event> {
     let Some(fresh) = open(raw) else { return vec![] };
+    let begin = Machine { held: fresh.held.with(5), ..fresh };
     let mut events = keystrokes("5@0");
     let mut start = APART;
-    for state in STATES {
-        let front = keystrokes(state);
-        for event in EVENTS.iter().flat_map(|event| keystrokes(event)) {
-            for shift in turns(lent, fresh, &front, event) {
-                let last = front.last().map_or(0, |event| event.stamp);
-                let at = Event { stamp: last + shift, ..event };
-                let let_go = ["F", "0up", "5", "18up", "19up", "21up", "24up"];
-                let behind = let_go.map(|what| format!("{what}@{}", FAR + last + 100)).join(" ");
-                let one = [&front[..], &[at], &keystrokes(&behind)].concat();
-                let moved = |e: &Event| Event { stamp: start + e.stamp, ..*e };
-                events.extend(one.iter().map(moved));
+    for front in STATES.map(keystrokes) {
+        let machine = after(lent, begin, &front);
+        for event in EVENTS.map(keystrokes).concat() {
+            for shift in turns(lent, &machine, event) {
+                let at = Event { stamp: machine.last + shift, ..event };
+                let end = after(lent, machine, &[at]);
+                let stamp = at.stamp + 2 * FAR;
+                let ups = end.held.keys().filter(|key| *key != 5);
+                let ups = ups.map(|key| Event { kind: 2, key, stamp });
+                let again = (!end.held.has(5)).then_some(Event { kind: 1, key: 5, stamp });
+                let function = [Event { kind: 5, key: 0, stamp }];
+                let behind = function.into_iter().chain(ups).chain(again);
+                let one = front.iter().copied().chain([at]).chain(behind);
+                events.extend(one.map(|event| Event { stamp: start + event.stamp, ..event }));
                 start += APART;
             }
         }
     }
     events
+}
+
+/// The machine after these events.
+fn after(lent: &Lent, machine: Machine, events: &[Event]) -> Machine {
+    let step = |machine: Machine, event: &Event| {
+        step_with(lent, &machine, *event).map_or(machine, |step| step.machine)
+    };
+    events.iter().fold(machine, step)
 }
 
 fn keystrokes(text: &str) -> Vec<Event> {
@@ -232,22 +245,15 @@ fn keystrokes(text: &str) -> Vec<Event> {
 
 /// How far behind the keystrokes an event decides otherwise than a millisecond before: there,
 /// just before and just behind; and at once.
-fn turns(lent: &Lent, fresh: Machine, front: &[Event], event: Event) -> Vec<u64> {
-    let held = fresh.held.with(5);
-    let begin = Machine { held, ..fresh };
-    let after = |machine: Machine, event: &Event| {
-        step_with(lent, &machine, *event).map_or(machine, |step| step.machine)
-    };
-    let machine = front.iter().fold(begin, after);
-    let decided = |shift: u64| -> Option<(Vec<Item>, Resting)> {
+fn turns(lent: &Lent, machine: &Machine, event: Event) -> Vec<u64> {
+    let decided = |shift: u64| {
         let event = Event { stamp: machine.last + shift, ..event };
-        let step = step_with(lent, &machine, event).ok()?;
-        Some((step.items, step.machine.resting))
+        let step = step_with(lent, machine, event).ok()?;
+        Some((step.items, discriminant(&step.machine.resting)))
     };
-    let kind = |shift: u64| decided(shift).map(|(items, resting)| (items, std::mem::discriminant(&resting)));
     let mut shifts = vec![0, 7];
     for shift in 1..FAR {
-        if kind(shift) != kind(shift - 1) {
+        if decided(shift) != decided(shift - 1) {
             shifts.extend([shift - 1, shift, shift + 1]);
         }
     }

@@ -337,17 +337,26 @@ fn began(resting: &Resting) -> Option<(u64, String)> {
     }
 }
 
-/// A state without its stamps.
-fn stampless(resting: Resting) -> Resting {
+/// A state with other stamps.
+fn restamped(resting: Resting, at: impl Fn(u64) -> u64) -> Resting {
     match resting {
         S1 => S1,
-        S2 { key, .. } => S2 { key, m: 0 },
-        S3 { thumb, .. } => S3 { thumb, o: 0 },
-        S4 { key, thumb, .. } => S4 { key, m: 0, thumb, o: 0 },
-        S5 { thumb, key, .. } => S5 { thumb, o: 0, key, m: 0 },
-        S6 { thumb, key, .. } => S6 { thumb, o: 0, key, m: 0, r: 0 },
-        S7 { key, second, .. } => S7 { key, m: 0, second, k: 0 },
-        S8 { key, second, .. } => S8 { key, m: 0, second, k: 0, r: 0 },
+        S2 { key, m } => S2 { key, m: at(m) },
+        S3 { thumb, o } => S3 { thumb, o: at(o) },
+        S4 { key, m, thumb, o } => S4 { key, m: at(m), thumb, o: at(o) },
+        S5 { thumb, o, key, m } => S5 { thumb, o: at(o), key, m: at(m) },
+        S6 { thumb, o, key, m, r } => S6 { thumb, o: at(o), key, m: at(m), r: at(r) },
+        S7 { key, m, second, k } => S7 { key, m: at(m), second, k: at(k) },
+        S8 { key, m, second, k, r } => S8 { key, m: at(m), second, k: at(k), r: at(r) },
+    }
+}
+
+/// The first stamp of a state.
+fn first_stamp(resting: &Resting) -> u64 {
+    match *resting {
+        S1 => 0,
+        S2 { m, .. } | S4 { m, .. } | S7 { m, .. } | S8 { m, .. } => m,
+        S3 { o, .. } | S5 { o, .. } | S6 { o, .. } => o,
     }
 }
 
@@ -366,6 +375,8 @@ struct Case<'a> {
 struct Shifts {
     later: Option<u64>,
     sooner: Option<u64>,
+    /// Later, but above the largest stamp: such an event is refused.
+    never: Option<u64>,
 }
 
 /// What an event decides: the items and the state after it.
@@ -376,6 +387,8 @@ type Decision = (Vec<Item>, Resting);
 const BEHIND: u64 = 50;
 const NEAR: u64 = 2_000;
 const SPREAD: u64 = 500;
+/// No wait is as long.
+const WAITS: u64 = 10_000_000_000;
 
 impl Case<'_> {
     fn words(&self, items: &[Item]) -> Vec<u16> {
@@ -410,12 +423,24 @@ impl Case<'_> {
         self.decided(stamp).map_or(vec![], |(items, _)| items)
     }
 
+    /// How far the stamps are moved back to try others: near the largest one, so that no
+    /// event is refused because of it (8/12).
+    fn back(&self) -> u64 {
+        match self.event.stamp > LARGEST_STAMP - WAITS {
+            true => first_stamp(&self.machine.resting),
+            false => 0,
+        }
+    }
+
     fn decided(&self, stamp: u64) -> Option<Decision> {
-        let event = Event { stamp, ..self.event };
-        let step = step_formed(self.lent, &self.found(), event).ok()?;
+        let (back, machine) = (self.back(), self.found());
+        let resting = restamped(machine.resting, |at| at - back);
+        let machine = Machine { resting, last: machine.last - back, ..machine };
+        let event = Event { stamp: stamp - back, ..self.event };
+        let step = step_formed(self.lent, &machine, event).ok()?;
         let resting = match self.slips.own(ExplainSlip::StampsRegarded) {
             true => step.machine.resting,
-            false => stampless(step.machine.resting),
+            false => restamped(step.machine.resting, |_| 0),
         };
         Some((step.items, resting))
     }
@@ -431,15 +456,23 @@ impl Case<'_> {
         let later = told(&[" ms later", " ms too early"]);
         let sooner = told(&[" ms sooner", " ms to spare"]);
         let rests = self.machine.resting != S1;
-        Shifts {
-            later: self.first_other(LARGEST_STAMP - stamp, near, later, |n| stamp + n),
-            // What began the state can't come after the event.
-            sooner: match rests {
-                true => self.first_other(stamp - first.min(stamp), NEAR, sooner, |n| stamp - n),
-                false => None,
-            },
-        }
-        .with_one_more(self.slips)
+        let more = u64::from(self.slips.own(ExplainSlip::OneMore));
+        let most = (LARGEST_STAMP - (stamp - self.back())).min(WAITS);
+        let found = match rests {
+            true => self.first_other(most, near, later, |n| stamp + n).map(|n| n + more),
+            // Nothing is compared with anything.
+            false => None,
+        };
+        let (later, never) = match found {
+            Some(n) if stamp + n > LARGEST_STAMP => (None, found),
+            _ => (found, None),
+        };
+        // What began the state can't come after the event.
+        let sooner = match rests {
+            true => self.first_other(stamp - first.min(stamp), NEAR, sooner, |n| stamp - n),
+            false => None,
+        };
+        Shifts { later, sooner, never }
     }
 
     /// The first shift up to a limit that decides otherwise: all are tried up to `near`, and
@@ -687,7 +720,7 @@ impl Case<'_> {
     fn needed(&self, shifts: &Shifts) -> String {
         let start = began(&self.machine.resting).map_or(0, |(start, _)| start);
         let stamp = self.event.stamp;
-        let enough = match (shifts.later, shifts.sooner) {
+        let enough = match (shifts.later.or(shifts.never), shifts.sooner) {
             (Some(later), _) => Some(stamp + later),
             (_, Some(sooner)) => Some(stamp - sooner + 1),
             _ => None,
@@ -770,13 +803,6 @@ pub const KINDS: [&str; 21] = [
     "S6-late", "S7-late", "S8-late", "too-early", "to-spare", "later", "sooner", "both",
     "as-a-tick",
 ];
-
-impl Shifts {
-    fn with_one_more(self, slips: Slips) -> Shifts {
-        let more = u64::from(slips.own(ExplainSlip::OneMore));
-        Shifts { later: self.later.map(|n| n + more), ..self }
-    }
-}
 
 /// A machine as it was when its state began.
 fn begun(machine: &Machine) -> Machine {
