@@ -154,16 +154,17 @@ fn in_library(right: &Explained) -> Result<(), String> {
 
 // ---- Every event in every state, where decisions turn ----
 
-/// Keystrokes that lead to a state, and the last of them to the stamp from which on an event
-/// comes. Without the list the last two end elsewhere.
-const STATES: [&str; 11] = [
+/// Keystrokes that lead to a state; from the last one on an event comes. Without a list the
+/// last four lead elsewhere.
+const STATES: [&str; 12] = [
     "",
     "21@0",
     "R@0",
     "21@0 R@30",
     "R@0 21@30",
     "R@0 21@40 Rup@60",
-    "L@0 0@0",
+    "R@0 0@20",
+    "21@0 R@30 tick@65",
     "21@0 24@30",
     "24@0 21@0",
     "21@0 24@30 21up@50",
@@ -178,10 +179,10 @@ const EVENTS: [&str; 16] = [
 ];
 
 const SETTINGS: [RawSettings; 6] = [
+    (100, 60, 40, 1),
     (100, 50, 50, 0),
     (100, 50, 50, 1),
     (1_000, 50, 50, 1),
-    (100, 60, 40, 1),
     (200, 99, 99, 0),
     (50, 33, 70, 1),
 ];
