@@ -7,6 +7,7 @@ pub mod consoles;
 pub mod damage;
 pub mod demand3;
 pub mod drill;
+pub mod explain;
 pub mod generate;
 pub mod holding;
 pub mod lines;
