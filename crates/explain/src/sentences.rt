@@ -449,8 +449,11 @@ fn say_if_later(list: &[u32], times: Times, machine: Machine, event: Event, numb
     match due {
         Due::Never => {}
         Due::At(turn) => {
-            let items = items_at(list, times, machine, event, turn);
-            say_later(stamp, turn, is_overlap(compared), items);
+            // An event above the largest stamp would be refused.
+            if waits::at_or_before(turn, Machine::LARGEST) {
+                let items = items_at(list, times, machine, event, turn);
+                say_later(stamp, turn, is_overlap(compared), items);
+            }
         }
     }
 }

@@ -188,15 +188,23 @@ pub fn no_calls() -> [Call; CALLS] {
     }; CALLS]
 }
 
+// Whether b comes before a: it is closer, or as close and committed earlier.
+fn precedes(b: Call, a: Call) -> bool {
+    if b.margin == a.margin {
+        return b.character < a.character;
+    }
+    b.margin < a.margin
+}
+
 fn closer(a: Call, b: Call) -> Call {
-    if b.margin < a.margin {
+    if precedes(b, a) {
         return b;
     }
     a
 }
 
 fn farther(a: Call, b: Call) -> Call {
-    if b.margin < a.margin {
+    if precedes(b, a) {
         return a;
     }
     b
