@@ -44,9 +44,15 @@ pub enum ExplainSlip {
     SixCalls,
     /// A call's margin is what is to spare.
     SpareMargin,
+    /// A decision that would have left a character open is no close one.
+    OpenUncounted,
+    /// Of two items the first alone is looked at.
+    FirstAtStake,
+    /// What is the same sooner and later is said twice.
+    SaidTwice,
 }
 
-pub const EXPLAIN_SLIPS: [(&str, ExplainSlip); 14] = [
+pub const EXPLAIN_SLIPS: [(&str, ExplainSlip); 17] = [
     ("due-before", ExplainSlip::DueBefore),
     ("late-untold", ExplainSlip::LateUntold),
     ("since-the-last", ExplainSlip::SinceTheLast),
@@ -61,6 +67,9 @@ pub const EXPLAIN_SLIPS: [(&str, ExplainSlip); 14] = [
     ("last-of-equal", ExplainSlip::LastOfEqual),
     ("six-calls", ExplainSlip::SixCalls),
     ("spare-margin", ExplainSlip::SpareMargin),
+    ("open-uncounted", ExplainSlip::OpenUncounted),
+    ("first-at-stake", ExplainSlip::FirstAtStake),
+    ("said-twice", ExplainSlip::SaidTwice),
 ];
 
 /// A wrong rule of the machine or of what is made here, if any.
@@ -83,10 +92,28 @@ pub struct Explained {
     pub number: u32,
     pub offset: u64,
     pub lent: Lent,
+    /// T, J, L and solo, if the log has them.
+    pub settings: Option<(u16, u8, u8, u8)>,
     pub rows: u64,
+    /// The accepted events, for a picture of them.
+    pub seen: Vec<Seen>,
+    /// What `--why` prints of each committed character or mark.
+    pub reasons: Vec<String>,
     pub tried: Vec<Tried>,
     /// What came up, for counting.
     pub kinds: Vec<&'static str>,
+}
+
+/// An accepted event: whether it is a repeat of a held key, when the state before it began,
+/// what it committed (an empty face as 0), how close that was, and the deadline after it.
+#[derive(Clone)]
+pub struct Seen {
+    pub event: Event,
+    pub repeat: bool,
+    pub began: Option<u64>,
+    pub words: Vec<u16>,
+    pub margin: Option<Margin>,
+    pub due: Option<u64>,
 }
 
 /// An event at a machine, and the words that it commits there.
@@ -101,7 +128,10 @@ const TAIL: usize = 8;
 const CALLS: usize = 5;
 
 const HEAD: &str =
-    "stamp      event    late       state due        screen                 what and why\n";
+    "stamp         event    late       state due           screen                 what and why\n";
+
+/// The columns of a stamp: every one that is accepted, and every deadline, has a blank behind it.
+const STAMP: usize = 14;
 
 /// What `explain` prints. Where it printed a shift that is too far to try all before it,
 /// that one is tried first: `printed` is its output, line by line.
@@ -137,13 +167,15 @@ struct Whole {
     /// Committed, with a thumb, of two letters, marks.
     counts: [u64; 4],
     calls: Vec<Call>,
+    seen: Vec<Seen>,
+    reasons: Vec<String>,
     tried: Vec<Tried>,
     kinds: Vec<&'static str>,
 }
 
 /// A decision that was close.
 struct Call {
-    margin: u64,
+    margin: Margin,
     number: u64,
     word: u16,
     stamp: u64,
@@ -158,6 +190,8 @@ impl Whole {
             events: 0,
             counts: [0; 4],
             calls: vec![],
+            seen: vec![],
+            reasons: vec![],
             tried: vec![],
             kinds: vec![],
         }
@@ -165,7 +199,7 @@ impl Whole {
 
     /// The row of an event.
     fn row(&mut self, lent: &Lent, machine: &Machine, event: Event, printed: &str) {
-        let front = format!("{}{}", column(&event.stamp.to_string(), 11), column(&name(event), 9));
+        let front = format!("{}{}", column(&event.stamp.to_string(), STAMP), column(&name(event), 9));
         match step_formed(lent, machine, event) {
             Err(number) => {
                 self.text += &format!("{front}refused {number}: {}\n", meaning(number));
@@ -174,8 +208,13 @@ impl Whole {
                 let case = Case { slips: self.slips, lent, machine, event, step: &step };
                 let shifts = case.shifts(printed);
                 self.count(&case, &shifts);
+                self.seen.push(case.seen(&shifts));
                 self.line.extend(case.words(&step.items).iter().filter(|word| **word != 0));
                 let sentence = case.sentence(&shifts);
+                for _ in &step.items {
+                    let number = self.reasons.len() + 1;
+                    self.reasons.push(format!("character {number}, at {}: {sentence}\n", event.stamp));
+                }
                 self.text += &format!("{front}{}{sentence}\n", case.columns(&self.line));
                 self.try_all(&case, &shifts);
             }
@@ -185,9 +224,9 @@ impl Whole {
     fn count(&mut self, case: &Case, shifts: &Shifts) {
         self.events += 1;
         let words = case.words(&case.step.items);
-        if let (Some(margin), [word, ..]) = (case.margin(shifts), &words[..]) {
-            let (number, stamp) = (self.counts[0] + 1, case.event.stamp);
-            self.calls.push(Call { margin, number, word: *word, stamp });
+        if let Some((margin, place)) = case.margin(shifts) {
+            let (number, stamp) = (self.counts[0] + 1 + place as u64, case.event.stamp);
+            self.calls.push(Call { margin, number, word: words[place], stamp });
         }
         for item in &case.step.items {
             let empty = sign(item).is_none() && self.slips.own(ExplainSlip::EmptyUncounted);
@@ -223,37 +262,58 @@ impl Whole {
             _ => format!("refused {number} at {}\n", before.offset),
         };
         let [committed, chords, pairs, marks] = self.counts;
+        let (events, marks) = (counted(self.events, "event"), counted(marks, "mark"));
         self.text += &format!(
-            "{} events accepted; {committed} committed: {chords} with a thumb, {pairs} of two letters, {marks} marks\n",
-            self.events
+            "{events} accepted; {committed} committed: {chords} with a thumb, {pairs} of two letters, {marks}\n"
         );
         if self.slips.own(ExplainSlip::LastOfEqual) {
             self.calls.reverse();
         }
         // Of equal margins the order stays.
-        self.calls.sort_by_key(|call| call.margin);
+        self.calls.sort_by_key(|call| call.margin.ms);
         let most = CALLS + usize::from(self.slips.own(ExplainSlip::SixCalls));
         if !self.calls.is_empty() {
             self.text +=
-                "closest calls, by how much sooner or later would have committed another character:\n";
+                "closest calls, by how much sooner or later would have decided otherwise:\n";
         }
         for Call { margin, number, word, stamp } in self.calls.iter().take(most) {
             let word = shown_word(*word);
-            self.text += &format!("  {margin} ms: character {number}, {word}, at {stamp}\n");
+            self.text += &format!("  {}: character {number}, {word}, at {stamp}\n", margin.text());
         }
         Explained {
             text: self.text,
             number,
             offset: before.offset,
             lent: before.lent.clone(),
+            settings: before.machine.map(|machine| machine.settings.numbers()),
             rows: self.events,
+            seen: self.seen,
+            reasons: self.reasons,
             tried: self.tried,
             kinds: self.kinds,
         }
     }
 }
 
+/// How few milliseconds would have turned a decision, and on which side.
+#[derive(Clone, Copy, PartialEq, Eq, Debug)]
+pub struct Margin {
+    pub ms: u64,
+    pub later: bool,
+}
+
+impl Margin {
+    pub fn text(self) -> String {
+        format!("{} ms {}", self.ms, if self.later { "later" } else { "sooner" })
+    }
+}
+
 // ---- Names and columns ----
+
+/// A count and what is counted.
+fn counted(n: u64, name: &str) -> String {
+    format!("{n} {name}{}", if n == 1 { "" } else { "s" })
+}
 
 /// An event as a row has it. One that is not allowed is named by its kind too.
 fn name(Event { kind, key, .. }: Event) -> String {
@@ -504,17 +564,34 @@ impl Case<'_> {
         }
     }
 
-    /// How close the decision was: the fewest milliseconds that commit another character.
-    fn margin(&self, shifts: &Shifts) -> Option<u64> {
+    /// How close the decision of an event that committed something was: the fewest
+    /// milliseconds at which one of its items is not committed, and the place of that item.
+    fn margin(&self, shifts: &Shifts) -> Option<(Margin, usize)> {
         let stamp = self.event.stamp;
-        let first = |items: &[Item]| self.words(items).first().copied();
-        let here = first(&self.step.items)?;
-        let other = |at: u64| first(&self.items_at(at)).is_some_and(|word| word != here);
-        let later = shifts.later.filter(|n| other(stamp + n));
-        let sooner = shifts.sooner.filter(|n| other(stamp - n));
-        let spare = self.slips.own(ExplainSlip::SpareMargin);
-        let sooner = sooner.map(|n| if spare && self.overlap() { n - 1 } else { n });
-        later.into_iter().chain(sooner).min()
+        let later = shifts.later.and_then(|ms| Some((Margin { ms, later: true }, self.turned(stamp + ms)?)));
+        let sooner = shifts.sooner.and_then(|ms| Some((Margin { ms, later: false }, self.turned(stamp - ms)?)));
+        let spare = self.slips.own(ExplainSlip::SpareMargin) && self.overlap();
+        let sooner = sooner.map(|(margin, place)| {
+            (Margin { ms: margin.ms - u64::from(spare), ..margin }, place)
+        });
+        sooner.into_iter().chain(later).min_by_key(|(margin, _)| margin.ms)
+    }
+
+    /// The first item that the event does not commit at another stamp; none where it commits
+    /// nothing there and leaves all as it was.
+    fn turned(&self, at: u64) -> Option<usize> {
+        let (own, others) = (&self.step.items, self.items_at(at));
+        if others.is_empty() && (self.slips.own(ExplainSlip::OpenUncounted) || self.unchanged_at(at)) {
+            return None;
+        }
+        let first_only = self.slips.own(ExplainSlip::FirstAtStake);
+        let most = if first_only { own.len().min(1) } else { own.len() };
+        (0..most).find(|place| others.get(*place) != Some(&own[*place]))
+    }
+
+    /// Whether the event at another stamp leaves what rested as it was, stamps apart.
+    fn unchanged_at(&self, stamp: u64) -> bool {
+        self.decided(stamp).is_some_and(|(_, after)| after == restamped(self.machine.resting, |_| 0))
     }
 
     // ---- The row ----
@@ -534,7 +611,7 @@ impl Case<'_> {
         let due = self.due(after).map_or("-".to_string(), |due| due.to_string());
         let screen = self.screen(line);
         let state = column(state(&self.step.machine.resting), 6);
-        format!("{late}{state}{}{screen}", column(&due, 11))
+        format!("{late}{state}{}{screen}", column(&due, STAMP))
     }
 
     /// The end of the line, and what waits in brackets.
@@ -689,16 +766,21 @@ impl Case<'_> {
             S4 { key, m, o, .. } if letter => {
                 let nearer = if o - m > stamp - o { "nearer" } else { "no nearer" };
                 let gap = o - m;
-                format!(", which came {gap} ms after key {key}; the thumb is {nearer} to the second key")
+                format!(
+                    ", which came {gap} ms after key {key}; the thumb is {nearer} to this press than to key {key}"
+                )
             }
-            S5 { thumb, o, m, .. } if kind == 3 && thumb != self.thumb() => {
+            S5 { thumb, o, key, m } if kind == 3 && thumb != self.thumb() => {
                 let nearer = if m - o >= stamp - m { "no nearer" } else { "nearer" };
                 let (gap, thumb) = (m - o, thumb_name(thumb));
-                format!(", which came {gap} ms after the {thumb}; the key is {nearer} to the first thumb")
+                format!(
+                    ", which came {gap} ms after the {thumb}; key {key} is {nearer} to the {thumb} than to this press"
+                )
             }
-            S7 { key, m, k, .. } if third => self.stays(key, k - m, stamp - k),
+            S7 { key, m, second, k } if third => self.stays((key, m), (second, k)),
             S8 { key, m, second, k, .. } if third => {
-                format!(" and {} ms after key {second}{}", stamp - k, self.stays(key, k - m, stamp - k))
+                let stays = self.stays((key, m), (second, k));
+                format!(" and {} ms after key {second}{stays}", stamp - k)
             }
             S8 { second, k, r, .. } if kind == 2 && self.acting_key() == Some(second) => {
                 let (_, _, l, _) = self.machine.settings.numbers();
@@ -711,9 +793,13 @@ impl Case<'_> {
         }
     }
 
-    fn stays(&self, key: u8, gap: u64, next: u64) -> String {
+    /// Whether the second key stays with the first where a third press comes.
+    fn stays(&self, (key, m): (u8, u64), (second, k): (u8, u64)) -> String {
+        let (gap, next) = (k - m, self.event.stamp - k);
         let nearer = if gap < next { "nearer" } else { "no nearer" };
-        format!(", which came {gap} ms after key {key}; the two are {nearer} to each other")
+        format!(
+            ", which came {gap} ms after key {key}; key {second} is {nearer} to key {key} than to this press"
+        )
     }
 
     /// From which overlap on it suffices.
@@ -742,27 +828,75 @@ impl Case<'_> {
     /// What the event would have committed later, and sooner.
     fn otherwise(&self, shifts: &Shifts) -> String {
         let stamp = self.event.stamp;
-        let not = |items: &[Item]| match items {
+        let (later, sooner) = (shifts.later.map(|n| stamp + n), shifts.sooner.map(|n| stamp - n));
+        match (later.zip(sooner), self.overlap()) {
+            (_, true) => self.overlap_otherwise(shifts),
+            (Some((later, sooner)), _) if self.reads_same(later, sooner) => {
+                format!("; {} if {} or {}", self.instead(sooner), self.away(sooner), self.away(later))
+            }
+            _ => {
+                let all = later.into_iter().chain(sooner);
+                all.map(|at| format!("; {} if {}", self.instead(at), self.away(at))).collect()
+            }
+        }
+    }
+
+    /// What an overlap lacks, or has to spare.
+    fn overlap_otherwise(&self, shifts: &Shifts) -> String {
+        let stamp = self.event.stamp;
+        let not = |at: u64| match &self.items_at(at)[..] {
             [] => String::new(),
-            _ => format!(", not {}", self.items(items)),
+            items => format!(", not {}", self.items(items)),
         };
-        let mut text = String::new();
-        if let Some(n) = shifts.later {
-            let items = self.items_at(stamp + n);
-            text += &match self.overlap() {
-                true => format!("{}; {n} ms too early", not(&items)),
-                false => format!("; {} if {n} ms later", self.items(&items)),
-            };
-        }
-        if let Some(n) = shifts.sooner {
-            let items = self.items_at(stamp - n);
+        let later = shifts.later.map(|n| format!("{}; {n} ms too early", not(stamp + n)));
+        let sooner = shifts.sooner.map(|n| {
             let spare = n - u64::from(!self.slips.own(ExplainSlip::SpareIsSooner));
-            text += &match self.overlap() {
-                true => format!("{}; {spare} ms to spare", not(&items)),
-                false => format!("; {} if {n} ms sooner", self.items(&items)),
-            };
+            format!("{}; {spare} ms to spare", not(stamp - n))
+        });
+        later.into_iter().chain(sooner).collect()
+    }
+
+    fn away(&self, at: u64) -> String {
+        let stamp = self.event.stamp;
+        Margin { ms: at.abs_diff(stamp), later: at > stamp }.text()
+    }
+
+    fn reads_same(&self, one: u64, other: u64) -> bool {
+        let same = self.items(&self.items_at(one)) == self.items(&self.items_at(other));
+        same && !self.slips.own(ExplainSlip::SaidTwice)
+    }
+
+    /// What the event decides at another stamp: what it commits, and whose that is where it
+    /// reads as what the event itself committed; or what waits together then.
+    fn instead(&self, at: u64) -> String {
+        let Some((items, after)) = self.decided(at) else { return String::new() };
+        let text = self.items(&items);
+        match (&items[..], after) {
+            ([], _) if self.unchanged_at(at) => text,
+            ([], S4 { key, thumb, .. } | S5 { key, thumb, .. }) => {
+                format!("key {key} and the {} together", thumb_name(thumb))
+            }
+            ([], S7 { key, second, .. }) => format!("key {key} and key {second} together"),
+            ([Item::Character { key, .. }], _) if text == self.items(&self.step.items) => {
+                format!("{text} for key {key}")
+            }
+            ([Item::Together { .. }], _) if text == self.items(&self.step.items) => {
+                format!("{text} for both keys")
+            }
+            _ => text,
         }
-        text
+    }
+
+    /// What a picture needs.
+    fn seen(&self, shifts: &Shifts) -> Seen {
+        Seen {
+            event: self.event,
+            repeat: self.event.kind == 1 && self.held().has(self.event.key),
+            began: began(&self.machine.resting).map(|(start, _)| start),
+            words: self.words(&self.step.items),
+            margin: self.margin(shifts).map(|(margin, _)| margin),
+            due: self.due(&self.step.machine),
+        }
     }
 
     /// What came up, for counting.

@@ -49,5 +49,9 @@ pub fn print_refused(number: u32, offset: usize) {
 pub fn print_not_there(committed: u64) {
     io::write_all(STDERR_FILENO, b"explain: the log commits ");
     io::print_decimal(STDERR_FILENO, committed);
+    if committed == 1 {
+        io::write_all(STDERR_FILENO, b" character and no more\n");
+        return;
+    }
     io::write_all(STDERR_FILENO, b" characters and no more\n");
 }

@@ -1,5 +1,7 @@
 // A timeline as SVG: letters and thumbs as bars from press to release, deadlines as ticks, committed characters where they were committed,
 // and below them the time that decided, with its margin.
+use crate::others;
+use crate::others::Margin;
 use crate::summary;
 use crate::summary::NONE;
 use crate::words::say;
@@ -18,11 +20,11 @@ use rules::Resting;
 // So many events fit.
 pub const MOST: u64 = 256;
 
-// What is kept of each: 8 numbers.
-const FIELDS: u64 = 8;
+// What is kept of each: 9 numbers.
+const FIELDS: u64 = 9;
 
 // Room for all of them.
-pub const ROOM: usize = 2048;
+pub const ROOM: usize = 2304;
 
 const STAMP: u64 = 0;
 
@@ -42,6 +44,9 @@ const BEGAN: u64 = 5;
 const DUE: u64 = 6;
 
 const MARGIN: u64 = 7;
+
+// 1 for a margin later, 0 for one sooner.
+const LATER: u64 = 8;
 
 // Where the first stamp stands, and the last.
 const LEFT: u64 = 84;
@@ -97,13 +102,6 @@ fn set(rows: &mut [u64], i: u64, f: u64, n: u64) {
     }
 }
 
-fn second_word(items: Items) -> u16 {
-    match items {
-        Items::Two(_, item) => layout::word(item),
-        _ => 0,
-    }
-}
-
 fn due_field(due: Due) -> u64 {
     match due {
         Due::Never => 0,
@@ -138,10 +136,11 @@ fn keep_event(rows: &mut [u64], i: u64, held: u32, event: Event) {
     set(rows, i, KEY, key.0 as u64);
 }
 
-fn keep_items(rows: &mut [u64], i: u64, items: Items, margin: u64) {
+fn keep_items(rows: &mut [u64], i: u64, items: Items, margin: Margin) {
     set(rows, i, FIRST, summary::first_word(items) as u64);
-    set(rows, i, SECOND, second_word(items) as u64);
-    set(rows, i, MARGIN, margin);
+    set(rows, i, SECOND, summary::second_word(items) as u64);
+    set(rows, i, MARGIN, margin.ms);
+    set(rows, i, LATER, if margin.later { 1 } else { 0 });
 }
 
 // Keeps an accepted event as number i.
@@ -161,7 +160,7 @@ pub fn keep(
         rows,
         i,
         items,
-        summary::margin(list, times, machine, event, items),
+        others::margin_of(list, times, machine, event, items),
     );
     set(rows, i, BEGAN, began_field(resting, event));
     set(
@@ -278,6 +277,13 @@ fn print_time(class: &[u8], x: u64, y: u64, n: u64) {
     say(b" ms</text>\n");
 }
 
+fn print_margin(x: u64, margin: u64, later: bool) {
+    say_text(b"margin", x, ROW_MARGIN + 12);
+    say_number(margin);
+    summary::say_side(later);
+    say(b"</text>\n");
+}
+
 fn print_both(x: u64, word: u64, other: u64) {
     say_text(b"line", x, ROW_LINE);
     say_kept(word);
@@ -386,7 +392,7 @@ fn print_decision(rows: &[u64], i: u64, x: u64, span: Span) {
     let began = field(rows, i, BEGAN);
     let margin = field(rows, i, MARGIN);
     if margin < NONE {
-        print_time(b"margin", x, ROW_MARGIN + 12, margin);
+        print_margin(x, margin, field(rows, i, LATER) == 1);
         if began < stamp {
             print_line(b"gap", across(span, began), ROW_GAP - 12, x, ROW_GAP - 12);
             print_time(b"small middle", x, ROW_GAP + 4, stamp - began);

@@ -1,9 +1,12 @@
-// The table: a row for each event.
+// The table: a row for each event. What stands before its sentence is put together first and written at once.
 use crate::screen;
 use crate::screen::TAIL;
 use crate::sentences;
 use crate::words;
-use crate::words::pad;
+use crate::words::padded;
+use crate::words::put_event;
+use crate::words::put_stamp;
+use crate::words::put_word;
 use crate::words::say;
 use crate::words::wider;
 use engine::Items;
@@ -12,59 +15,88 @@ use margins::Due;
 use rules::Event;
 use rules::Machine;
 use rules::Resting;
+use status_line::put_bytes;
+
+// Room for what stands before a sentence, blanks at first: at most 64 columns and 55 bytes of the screen.
+const ROOM: usize = 192;
 
 pub fn print_head() {
-    say(b"stamp      event    late       state due        screen                 what and why\n");
+    say(
+        b"stamp         event    late       state due           screen                 what and why\n",
+    );
 }
 
-fn say_state(resting: Resting) {
+fn put_state(out: &mut [u8], at: usize, resting: Resting) -> usize {
     match resting {
-        Resting::S1 => say(b"S1    "),
-        Resting::S2(_, _) => say(b"S2    "),
-        Resting::S3(_, _) => say(b"S3    "),
-        Resting::S4(_, _, _, _) => say(b"S4    "),
-        Resting::S5(_, _, _, _) => say(b"S5    "),
-        Resting::S6(_, _, _, _, _) => say(b"S6    "),
-        Resting::S7(_, _, _, _) => say(b"S7    "),
-        Resting::S8(_, _, _, _, _) => say(b"S8    "),
+        Resting::S1 => put_bytes(out, at, b"S1    "),
+        Resting::S2(_, _) => put_bytes(out, at, b"S2    "),
+        Resting::S3(_, _) => put_bytes(out, at, b"S3    "),
+        Resting::S4(_, _, _, _) => put_bytes(out, at, b"S4    "),
+        Resting::S5(_, _, _, _) => put_bytes(out, at, b"S5    "),
+        Resting::S6(_, _, _, _, _) => put_bytes(out, at, b"S6    "),
+        Resting::S7(_, _, _, _) => put_bytes(out, at, b"S7    "),
+        Resting::S8(_, _, _, _, _) => put_bytes(out, at, b"S8    "),
     }
 }
 
-fn say_one(word: u16) {
-    words::say_word(word);
-    pad(wider(0, word), 11);
+fn put_one(out: &mut [u8], at: usize, word: u16) -> usize {
+    let behind = put_word(out, at, word);
+    padded(behind, wider(0, word), 11)
 }
 
-fn say_two(word: u16, other: u16) {
-    words::say_word(word);
-    words::say_word(other);
-    pad(wider(wider(0, word), other), 11);
+fn put_two(out: &mut [u8], at: usize, word: u16, other: u16) -> usize {
+    let first = put_word(out, at, word);
+    let behind = put_word(out, first, other);
+    padded(behind, wider(wider(0, word), other), 11)
 }
 
 // What was late before the event, in eleven columns.
-fn say_late(late: bool, items: Items) {
+fn put_late(out: &mut [u8], at: usize, late: bool, items: Items) -> usize {
     if !late {
-        pad(0, 11);
-        return;
+        return padded(at, 0, 11);
     }
     match items {
-        Items::None => pad(0, 11),
-        Items::One(item) => say_one(layout::word(item)),
-        Items::Two(item, other) => say_two(layout::word(item), layout::word(other)),
+        Items::None => padded(at, 0, 11),
+        Items::One(item) => put_one(out, at, layout::word(item)),
+        Items::Two(item, other) => put_two(out, at, layout::word(item), layout::word(other)),
     }
 }
 
-fn say_front(event: Event) {
+fn put_front(out: &mut [u8], event: Event) -> usize {
     let stamp = event.stamp;
-    words::say_stamp(stamp);
-    words::say_event(event);
+    let behind = put_stamp(out, 0, stamp);
+    put_event(out, behind, event)
+}
+
+// A deadline, or `-`.
+fn put_due(out: &mut [u8], at: usize, due: Due) -> usize {
+    match due {
+        Due::Never => put_bytes(out, at, b"-             "),
+        Due::At(stamp) => put_stamp(out, at, stamp),
+    }
 }
 
 // What rests after the event.
-fn say_rest(resting: Resting, due: Due, tail: [u16; TAIL]) {
-    say_state(resting);
-    words::say_due(due);
-    screen::say_screen(tail, resting, 23);
+fn put_rest(out: &mut [u8], at: usize, resting: Resting, due: Due, tail: [u16; TAIL]) -> usize {
+    let state = put_state(out, at, resting);
+    let behind = put_due(out, state, due);
+    screen::put_screen(out, behind, tail, resting, 23)
+}
+
+// All that stands before the sentence of an accepted event.
+fn say_columns(
+    event: Event,
+    late: bool,
+    items: Items,
+    resting: Resting,
+    due: Due,
+    tail: [u16; TAIL],
+) {
+    let mut out = [b' '; ROOM];
+    let front = put_front(&mut out, event);
+    let behind = put_late(&mut out, front, late, items);
+    let n = put_rest(&mut out, behind, resting, due, tail);
+    words::say_front(&out, n);
 }
 
 // The row of an accepted event that left a machine.
@@ -79,9 +111,14 @@ pub fn print_row(
 ) {
     let resting = after.resting;
     let numbers = why::numbers_at(list, times, machine, event);
-    say_front(event);
-    say_late(numbers.late, items);
-    say_rest(resting, why::deadline_of(list, times, after), tail);
+    say_columns(
+        event,
+        numbers.late,
+        items,
+        resting,
+        why::deadline_of(list, times, after),
+        tail,
+    );
     sentences::say_sentence(list, times, machine, event, items);
     say(b"\n");
 }
@@ -99,7 +136,9 @@ fn say_refusal(number: u8) {
 
 // The row of a refused event.
 pub fn print_refused(event: Event, number: u8) {
-    say_front(event);
+    let mut out = [b' '; ROOM];
+    let n = put_front(&mut out, event);
+    words::say_front(&out, n);
     say(b"refused ");
     words::say_number(number as u64);
     say_refusal(number);

@@ -1,11 +1,10 @@
 // What the screen shows: the end of the committed line, and what waits, in brackets.
-use crate::words::pad;
-use crate::words::say;
-use crate::words::say_word;
+use crate::words::padded;
 use crate::words::wider;
 use engine::Items;
 use rules::Face;
 use rules::Resting;
+use status_line::put_bytes;
 
 // So many words of the line are shown.
 pub const TAIL: usize = 8;
@@ -74,22 +73,24 @@ fn with_shown(used: usize, word: u16) -> usize {
     wider(used, word)
 }
 
-fn say_shown(word: u16) {
-    if word != 0 {
-        say_word(word);
+fn put_shown(out: &mut [u8], at: usize, word: u16) -> usize {
+    if word == 0 {
+        return at;
     }
+    text::put(out, at, word)
 }
 
-// The words of the line that are shown, and how many columns they take.
-fn say_tail(tail: [u16; TAIL]) {
-    say_shown(tail[0]);
-    say_shown(tail[1]);
-    say_shown(tail[2]);
-    say_shown(tail[3]);
-    say_shown(tail[4]);
-    say_shown(tail[5]);
-    say_shown(tail[6]);
-    say_shown(tail[7]);
+fn put_four(out: &mut [u8], at: usize, a: u16, b: u16, c: u16, d: u16) -> usize {
+    let first = put_shown(out, at, a);
+    let second = put_shown(out, first, b);
+    let third = put_shown(out, second, c);
+    put_shown(out, third, d)
+}
+
+// The words of the line that are shown.
+fn put_tail(out: &mut [u8], at: usize, tail: [u16; TAIL]) -> usize {
+    let half = put_four(out, at, tail[0], tail[1], tail[2], tail[3]);
+    put_four(out, half, tail[4], tail[5], tail[6], tail[7])
 }
 
 fn with_four(used: usize, a: u16, b: u16, c: u16, d: u16) -> usize {
@@ -102,13 +103,14 @@ fn tail_columns(tail: [u16; TAIL]) -> usize {
 }
 
 // What waits, in brackets.
-fn say_waiting(first: u16, second: u16) {
-    if first != 0 {
-        say(b"[");
-        say_shown(first);
-        say_shown(second);
-        say(b"]");
+fn put_waiting(out: &mut [u8], at: usize, first: u16, second: u16) -> usize {
+    if first == 0 {
+        return at;
     }
+    let bracket = put_bytes(out, at, b"[");
+    let one = put_shown(out, bracket, first);
+    let both = put_shown(out, one, second);
+    put_bytes(out, both, b"]")
 }
 
 // The brackets take as many columns as a character.
@@ -120,10 +122,20 @@ fn waiting_columns(used: usize, first: u16, second: u16) -> usize {
 }
 
 // The screen, padded to a column.
-pub fn say_screen(tail: [u16; TAIL], resting: Resting, column: usize) {
+pub fn put_screen(
+    out: &mut [u8],
+    at: usize,
+    tail: [u16; TAIL],
+    resting: Resting,
+    column: usize,
+) -> usize {
     let first = first_waiting(resting);
     let second = second_waiting(resting);
-    say_tail(tail);
-    say_waiting(first, second);
-    pad(waiting_columns(tail_columns(tail), first, second), column);
+    let line = put_tail(out, at, tail);
+    let behind = put_waiting(out, line, first, second);
+    padded(
+        behind,
+        waiting_columns(tail_columns(tail), first, second),
+        column,
+    )
 }

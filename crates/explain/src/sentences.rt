@@ -1,5 +1,8 @@
 // One event in a sentence: what was late before it, what it did, by which numbers, and what would have been a little sooner or later. Every
 // number comes from `why`, every decision from `engine`.
+use crate::others;
+use crate::others::Other;
+use crate::others::is_none;
 use crate::words::say;
 use crate::words::say_items;
 use crate::words::say_key;
@@ -11,6 +14,7 @@ use engine::Times;
 use margins::Compared;
 use margins::Due;
 use rules::Event;
+use rules::Item;
 use rules::Key;
 use rules::Lag;
 use rules::Machine;
@@ -241,37 +245,46 @@ fn say_came(gap: Lag) {
     say(b" after ");
 }
 
+fn say_nearer(nearer: bool) {
+    if nearer {
+        say(b"nearer to ");
+        return;
+    }
+    say(b"no nearer to ");
+}
+
 // S4: whether a second character takes the thumb.
 fn say_taken_thumb(key: Key, a: Lag, b: Lag) {
     say_came(a);
     say_key(key);
-    if waits::second_character_takes_thumb(a, b) {
-        say(b"; the thumb is nearer to the second key");
-        return;
-    }
-    say(b"; the thumb is no nearer to the second key");
+    say(b"; the thumb is ");
+    say_nearer(waits::second_character_takes_thumb(a, b));
+    say(b"this press than to ");
+    say_key(key);
 }
 
 // S5: whether a second thumb takes the character.
-fn say_taken_character(thumb: Thumb, a: Lag, b: Lag) {
+fn say_taken_character(thumb: Thumb, key: Key, a: Lag, b: Lag) {
     say_came(a);
     say_the(thumb);
-    if waits::second_thumb_takes_character(a, b) {
-        say(b"; the key is no nearer to the first thumb");
-        return;
-    }
-    say(b"; the key is nearer to the first thumb");
+    say(b"; ");
+    say_key(key);
+    say(b" is ");
+    say_nearer(!waits::second_thumb_takes_character(a, b));
+    say_the(thumb);
+    say(b" than to this press");
 }
 
 // S7 and S8: whether a pair stays together.
-fn say_stays(key: Key, a: Lag, b: Lag) {
+fn say_stays(key: Key, second: Key, a: Lag, b: Lag) {
     say_came(a);
     say_key(key);
-    if waits::pair_stays(a, b) {
-        say(b"; the two are nearer to each other");
-        return;
-    }
-    say(b"; the two are no nearer to each other");
+    say(b"; ");
+    say_key(second);
+    say(b" is ");
+    say_nearer(waits::pair_stays(a, b));
+    say_key(key);
+    say(b" than to this press");
 }
 
 // S8: the event came after the first key's release; it is compared from the second key on.
@@ -280,15 +293,15 @@ fn say_stays_released(key: Key, second: Key, a: Lag, b: Lag) {
     say_ms(b);
     say(b" after ");
     say_key(second);
-    say_stays(key, a, b);
+    say_stays(key, second, a, b);
 }
 
 // The two gaps of an event between two others.
 fn say_gaps(resting: Resting, a: Lag, b: Lag) {
     match resting {
         Resting::S4(key, _, _, _) => say_taken_thumb(key, a, b),
-        Resting::S5(thumb, _, _, _) => say_taken_character(thumb, a, b),
-        Resting::S7(key, _, _, _) => say_stays(key, a, b),
+        Resting::S5(thumb, _, key, _) => say_taken_character(thumb, key, a, b),
+        Resting::S7(key, _, second, _) => say_stays(key, second, a, b),
         Resting::S8(key, _, second, _, _) => say_stays_released(key, second, a, b),
         _ => {}
     }
@@ -351,34 +364,6 @@ fn say_compared(resting: Resting, numbers: Numbers) {
     }
 }
 
-// The machine as it was when its state began.
-fn begun(machine: Machine) -> Machine {
-    let resting = machine.resting;
-    let settings = machine.settings;
-    Machine {
-        settings: settings,
-        resting: resting,
-        last: margins::began(resting),
-        held: machine.held,
-    }
-}
-
-// What the same event would have committed at another stamp.
-pub fn items_at(list: &[u32], times: Times, machine: Machine, event: Event, stamp: Stamp) -> Items {
-    let key = event.key;
-    let answer = engine::step(
-        list,
-        times,
-        begun(machine),
-        Event {
-            kind: event.kind,
-            key: key,
-            stamp: stamp,
-        },
-    );
-    answer.items
-}
-
 // Whether what is measured is an overlap: a release that came too early, or late enough.
 fn is_overlap(compared: Compared) -> bool {
     match compared {
@@ -386,22 +371,6 @@ fn is_overlap(compared: Compared) -> bool {
         Compared::OverlapsAsPair(_, _, _, _) => true,
         _ => false,
     }
-}
-
-pub fn is_none(items: Items) -> bool {
-    match items {
-        Items::None => true,
-        _ => false,
-    }
-}
-
-// `; が if 10 ms later`.
-fn say_other(away: Lag, when: &[u8], items: Items) {
-    say(b"; ");
-    say_items(items);
-    say(b" if ");
-    say_ms(away);
-    say(when);
 }
 
 // `, not が`.
@@ -413,63 +382,151 @@ fn say_not(items: Items) {
     say_items(items);
 }
 
-// `, not が; 10 ms too early`.
-fn say_missing(away: Lag, how: &[u8], items: Items) {
-    say_not(items);
-    say(b"; ");
-    say_ms(away);
-    say(how);
-}
-
-// What a later event would have done.
-fn say_later(stamp: Stamp, turn: Stamp, overlap: bool, items: Items) {
-    let away = lag(stamp, turn);
-    if overlap {
-        say_missing(away, b" too early", items);
-        return;
-    }
-    say_other(away, b" later", items);
-}
-
-// What an earlier one would have done.
-fn say_sooner(stamp: Stamp, turn: Stamp, overlap: bool, items: Items) {
-    let away = lag(turn, stamp);
-    if overlap {
-        say_missing(lag(waits::later(turn, Lag(1)), stamp), b" to spare", items);
-        return;
-    }
-    say_other(away, b" sooner", items);
-}
-
-// What the same event would have done at the next stamp that decides otherwise.
-fn say_if_later(list: &[u32], times: Times, machine: Machine, event: Event, numbers: Numbers) {
-    let stamp = event.stamp;
-    let due = numbers.later;
-    let compared = numbers.compared;
-    match due {
-        Due::Never => {}
-        Due::At(turn) => {
-            // An event above the largest stamp would be refused.
-            if waits::at_or_before(turn, Machine::LARGEST) {
-                let items = items_at(list, times, machine, event, turn);
-                say_later(stamp, turn, is_overlap(compared), items);
-            }
+// What is missing of an overlap: `, not が; 10 ms too early`.
+fn say_missing(stamp: Stamp, later: Other) {
+    match later {
+        Other::None => {}
+        Other::At(turn, items, _) => {
+            say_not(items);
+            say(b"; ");
+            say_ms(lag(stamp, turn));
+            say(b" too early");
         }
     }
 }
 
-// And at the last one before.
-fn say_if_sooner(list: &[u32], times: Times, machine: Machine, event: Event, numbers: Numbers) {
-    let stamp = event.stamp;
-    let due = numbers.sooner;
-    let compared = numbers.compared;
-    match due {
-        Due::Never => {}
-        Due::At(turn) => {
-            let items = items_at(list, times, machine, event, turn);
-            say_sooner(stamp, turn, is_overlap(compared), items);
+// What of it was not needed: `, not か; 0 ms to spare`.
+fn say_spare(stamp: Stamp, sooner: Other) {
+    match sooner {
+        Other::None => {}
+        Other::At(turn, items, _) => {
+            say_not(items);
+            say(b"; ");
+            say_ms(lag(waits::later(turn, Lag(1)), stamp));
+            say(b" to spare");
         }
     }
+}
+
+fn say_together(key: Key, thumb: Thumb) {
+    say_key(key);
+    say(b" and ");
+    say_the(thumb);
+    say(b" together");
+}
+
+// What a decision that commits nothing leaves: two that wait together, or all as it was.
+fn say_left(resting: Resting, after: Resting) {
+    if others::stays(resting, after) {
+        say(b"nothing yet");
+        return;
+    }
+    match after {
+        Resting::S4(key, _, thumb, _) => say_together(key, thumb),
+        Resting::S5(thumb, _, key, _) => say_together(key, thumb),
+        Resting::S7(key, _, second, _) => {
+            say_key(key);
+            say(b" and ");
+            say_key(second);
+            say(b" together");
+        }
+        _ => say(b"nothing yet"),
+    }
+}
+
+// Whose character it is.
+fn say_whose(items: Items) {
+    let Items::One(item) = items else {
+        return;
+    };
+    match item {
+        Item::Character(key, _) => {
+            say(b" for ");
+            say_key(key);
+        }
+        Item::Mark(_) => {}
+        Item::Together(_, _, _) => say(b" for both keys"),
+    }
+}
+
+// What another decision would have been; where it reads as the event's own, also whose character it is.
+fn say_instead(resting: Resting, own: Items, items: Items, after: Resting) {
+    if is_none(items) {
+        say_left(resting, after);
+        return;
+    }
+    say_items(items);
+    if others::same_words(own, items) {
+        say_whose(items);
+    }
+}
+
+// `10 ms later`.
+fn say_away(stamp: Stamp, turn: Stamp) {
+    say_number(others::between(stamp, turn));
+    if waits::before(stamp, turn) {
+        say(b" ms later");
+        return;
+    }
+    say(b" ms sooner");
+}
+
+// `; が if 10 ms later`.
+fn say_if(resting: Resting, stamp: Stamp, own: Items, other: Other) {
+    match other {
+        Other::None => {}
+        Other::At(turn, items, after) => {
+            say(b"; ");
+            say_instead(resting, own, items, after);
+            say(b" if ");
+            say_away(stamp, turn);
+        }
+    }
+}
+
+fn say_or(stamp: Stamp, other: Other) {
+    match other {
+        Other::None => {}
+        Other::At(turn, _, _) => {
+            say(b" or ");
+            say_away(stamp, turn);
+        }
+    }
+}
+
+// Both other decisions; where they are the same, it is said once.
+fn say_others(resting: Resting, stamp: Stamp, own: Items, later: Other, sooner: Other) {
+    if others::same_others(later, sooner) {
+        say_if(resting, stamp, own, sooner);
+        say_or(stamp, later);
+        return;
+    }
+    say_if(resting, stamp, own, later);
+    say_if(resting, stamp, own, sooner);
+}
+
+// What the same event would have done at the next stamp that decides otherwise, and at the last one before.
+fn say_otherwise(
+    list: &[u32],
+    times: Times,
+    machine: Machine,
+    event: Event,
+    numbers: Numbers,
+    own: Items,
+) {
+    let stamp = event.stamp;
+    let resting = machine.resting;
+    let compared = numbers.compared;
+    let behind = numbers.later;
+    let front = numbers.sooner;
+    let later = others::other_at(list, times, machine, event, behind);
+    let sooner = others::other_at(list, times, machine, event, front);
+    if is_overlap(compared) {
+        say_missing(stamp, later);
+        say_spare(stamp, sooner);
+        return;
+    }
+    say_others(resting, stamp, own, later, sooner);
 }
 
 fn say_committed(items: Items) {
@@ -531,6 +588,5 @@ pub fn say_sentence(list: &[u32], times: Times, machine: Machine, event: Event, 
     let numbers = why::numbers_at(list, times, machine, event);
     say_decided(machine, numbers, event, items);
     say_tick(machine.held, event);
-    say_if_later(list, times, machine, event, numbers);
-    say_if_sooner(list, times, machine, event, numbers);
+    say_otherwise(list, times, machine, event, numbers, items);
 }

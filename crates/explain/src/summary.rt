@@ -1,18 +1,11 @@
 // What was committed in all, and the closest calls: the decisions that the fewest milliseconds would have turned.
-use crate::sentences::is_none;
-use crate::sentences::items_at;
 use crate::words::say;
+use crate::words::say_counted;
 use crate::words::say_number;
 use crate::words::say_word;
 use engine::Items;
-use engine::Times;
-use margins::Due;
-use rules::Event;
 use rules::Face;
 use rules::Item;
-use rules::Machine;
-use rules::Stamp;
-use waits::lag;
 
 // So many closest calls are kept.
 pub const CALLS: usize = 5;
@@ -126,53 +119,18 @@ pub fn first_word(items: Items) -> u16 {
     }
 }
 
-// How far away another stamp is, if the event would have committed another character there.
-fn away(stamp: Stamp, turn: Stamp, items: Items, other: Items) -> u64 {
-    if is_none(other) {
-        return NONE;
-    }
-    if first_word(other) == first_word(items) {
-        return NONE;
-    }
-    if waits::before(stamp, turn) {
-        return lag(stamp, turn).0;
-    }
-    lag(turn, stamp).0
-}
-
-fn away_at(
-    list: &[u32],
-    times: Times,
-    machine: Machine,
-    event: Event,
-    items: Items,
-    due: Due,
-) -> u64 {
-    let stamp = event.stamp;
-    match due {
-        Due::Never => NONE,
-        Due::At(turn) => away(
-            stamp,
-            turn,
-            items,
-            items_at(list, times, machine, event, turn),
-        ),
+// The word of the second item, 0 for none.
+pub fn second_word(items: Items) -> u16 {
+    match items {
+        Items::Two(_, item) => layout::word(item),
+        _ => 0,
     }
 }
 
-// How many milliseconds sooner or later would have committed another character.
-pub fn margin(list: &[u32], times: Times, machine: Machine, event: Event, items: Items) -> u64 {
-    let numbers = why::numbers_at(list, times, machine, event);
-    let behind = numbers.later;
-    let front = numbers.sooner;
-    let later = away_at(list, times, machine, event, items, behind);
-    let sooner = away_at(list, times, machine, event, items, front);
-    if later < sooner { later } else { sooner }
-}
-
-// A decision that was close: its margin, and the number, stamp and word of its character.
+// A decision that was close: its margin, later or sooner, and the number, stamp and word of its character.
 pub struct Call {
     pub margin: u64,
+    pub later: bool,
     pub character: u64,
     pub stamp: u64,
     pub word: u16,
@@ -182,6 +140,7 @@ pub struct Call {
 pub fn no_calls() -> [Call; CALLS] {
     [Call {
         margin: NONE,
+        later: false,
         character: 0,
         stamp: 0,
         word: 0,
@@ -229,11 +188,21 @@ fn is_call(call: Call) -> bool {
     call.margin < NONE
 }
 
+// Which side another decision lies on.
+pub fn say_side(later: bool) {
+    if later {
+        say(b" ms later");
+        return;
+    }
+    say(b" ms sooner");
+}
+
 fn print_call(call: Call) {
     if is_call(call) {
         say(b"  ");
         say_number(call.margin);
-        say(b" ms: character ");
+        say_side(call.later);
+        say(b": character ");
         say_number(call.character);
         say(b", ");
         say_word(call.word);
@@ -246,9 +215,7 @@ fn print_call(call: Call) {
 // The closest calls, closest first.
 pub fn print_calls(calls: [Call; CALLS]) {
     if is_call(calls[0]) {
-        say(
-            b"closest calls, by how much sooner or later would have committed another character:\n",
-        );
+        say(b"closest calls, by how much sooner or later would have decided otherwise:\n");
     }
     print_call(calls[0]);
     print_call(calls[1]);
@@ -263,11 +230,11 @@ fn say_count(n: u64, name: &[u8]) {
 }
 
 pub fn print_totals(totals: Totals) {
-    say_count(totals.events, b" events accepted; ");
+    say_counted(totals.events, b" event accepted; ", b" events accepted; ");
     say_count(totals.committed, b" committed: ");
     say_count(totals.chords, b" with a thumb, ");
     say_count(totals.pairs, b" of two letters, ");
-    say_count(totals.marks, b" marks\n");
+    say_counted(totals.marks, b" mark\n", b" marks\n");
 }
 
 // What waits, or which record was refused, as `play` says it.

@@ -1,6 +1,7 @@
 // The same events at other settings: for T, J and L one step down and one up, how many presses would have been committed otherwise.
 use crate::summary::one_more;
 use crate::words::say;
+use crate::words::say_counted;
 use crate::words::say_number;
 use engine::Items;
 use engine::Times;
@@ -304,8 +305,7 @@ fn say_share(answers: Answers) {
     let otherwise = answers.otherwise;
     say_number(otherwise);
     say(b" of ");
-    say_number(presses);
-    say(b" presses");
+    say_counted(presses, b" press", b" presses");
     if 0 < presses {
         say(b", ");
         say_percent(otherwise, presses);

@@ -1,20 +1,21 @@
-// Words and numbers of an explanation on standard output.
+// Words and numbers of an explanation: on standard output, or put at a place of a run that is written later.
 use engine::Items;
 use libc::STDOUT_FILENO;
-use margins::Due;
 use rules::Event;
 use rules::Item;
 use rules::Key;
 use rules::Lag;
 use rules::Stamp;
 use rules::Thumb;
+use status_line::put_bytes;
+use status_line::put_number;
 
 pub fn say(bytes: &[u8]) {
     io::write_all(STDOUT_FILENO, bytes);
 }
 
 // The front of some bytes, if there are so many.
-fn say_front(bytes: &[u8], n: usize) {
+pub fn say_front(bytes: &[u8], n: usize) {
     if n <= bytes.len() {
         io::write_all(STDOUT_FILENO, &bytes[..n]);
     }
@@ -24,7 +25,7 @@ pub fn say_number(n: u64) {
     io::print_decimal(STDOUT_FILENO, n);
 }
 
-// The columns of a number, 11 for one that has more.
+// The columns of a number, 13 for one that has more: no stamp that is accepted has.
 fn columns_of(n: u64) -> usize {
     if n < 1000 {
         return if n < 10 {
@@ -47,7 +48,24 @@ fn columns_of(n: u64) -> usize {
             if n < 100_000_000 { 8 } else { 9 }
         };
     }
-    if n < 10_000_000_000 { 10 } else { 11 }
+    if n < 1_000_000_000_000 {
+        return if n < 10_000_000_000 {
+            10
+        } else {
+            if n < 100_000_000_000 { 11 } else { 12 }
+        };
+    }
+    13
+}
+
+// A count and what is counted, one or more of it.
+pub fn say_counted(n: u64, one: &[u8], more: &[u8]) {
+    say_number(n);
+    if n == 1 {
+        say(one);
+        return;
+    }
+    say(more);
 }
 
 pub fn say_ms(lag: Lag) {
@@ -61,13 +79,15 @@ pub fn say_many(byte: u8, n: usize) {
     say_front(&bytes, n);
 }
 
-// Spaces up to a column; one where it is passed.
-pub fn pad(used: usize, column: usize) {
-    if used < column {
-        say_many(b' ', column - used);
-        return;
+// The place behind blanks up to a column, behind one where it is passed. They stand there already.
+pub fn padded(at: usize, used: usize, column: usize) -> usize {
+    let blanks = if used < column { column - used } else { 1 };
+    if at < 1000 {
+        if blanks < 1000 {
+            return at + blanks;
+        }
     }
-    say(b" ");
+    at
 }
 
 // So many columns and those that a word takes: a character of the layout two, a mark `<L>` three, an empty face, `-`, one. No line has
@@ -128,56 +148,60 @@ pub fn say_items(items: Items) {
     }
 }
 
-// What a release has behind it.
-fn say_up(used: usize) {
-    say(b" up");
-    pad(used, 6);
+// A word as it is printed at a place; an empty face as `-`.
+pub fn put_word(out: &mut [u8], at: usize, word: u16) -> usize {
+    if word == 0 {
+        return put_bytes(out, at, b"-");
+    }
+    text::put(out, at, word)
 }
 
-fn say_side(key: Key) {
+// What a release has behind it.
+fn put_up(out: &mut [u8], at: usize, used: usize) -> usize {
+    let behind = put_bytes(out, at, b" up");
+    padded(behind, used, 6)
+}
+
+fn put_side(out: &mut [u8], at: usize, key: Key) -> usize {
     if key.0 == 0 {
-        say(b"L");
-        return;
+        return put_bytes(out, at, b"L");
     }
-    say(b"R");
+    put_bytes(out, at, b"R")
+}
+
+fn put_key(out: &mut [u8], at: usize, key: Key, up: bool) -> usize {
+    let behind = put_number(out, at, key.0 as u64);
+    let used = columns_of(key.0 as u64);
+    if up {
+        return put_up(out, behind, used);
+    }
+    padded(behind, used, 9)
+}
+
+fn put_thumb(out: &mut [u8], at: usize, key: Key, up: bool) -> usize {
+    let behind = put_side(out, at, key);
+    if up {
+        return put_up(out, behind, 1);
+    }
+    padded(behind, 1, 9)
 }
 
 // An event without its stamp, in nine columns: `21`, `21 up`, `R`, `R up`, `fn`, `tick`.
-pub fn say_event(event: Event) {
+pub fn put_event(out: &mut [u8], at: usize, event: Event) -> usize {
     let key = event.key;
     let kind = event.kind;
     match kind {
-        1 => {
-            say_number(key.0 as u64);
-            pad(columns_of(key.0 as u64), 9);
-        }
-        2 => {
-            say_number(key.0 as u64);
-            say_up(columns_of(key.0 as u64));
-        }
-        3 => {
-            say_side(key);
-            pad(1, 9);
-        }
-        4 => {
-            say_side(key);
-            say_up(1);
-        }
-        5 => say(b"fn       "),
-        _ => say(b"tick     "),
+        1 => put_key(out, at, key, false),
+        2 => put_key(out, at, key, true),
+        3 => put_thumb(out, at, key, false),
+        4 => put_thumb(out, at, key, true),
+        5 => put_bytes(out, at, b"fn       "),
+        _ => put_bytes(out, at, b"tick     "),
     }
 }
 
-// A stamp in eleven columns.
-pub fn say_stamp(stamp: Stamp) {
-    say_number(stamp.0);
-    pad(columns_of(stamp.0), 11);
-}
-
-// A deadline, or `-`.
-pub fn say_due(due: Due) {
-    match due {
-        Due::Never => say(b"-          "),
-        Due::At(stamp) => say_stamp(stamp),
-    }
+// A stamp in fourteen columns.
+pub fn put_stamp(out: &mut [u8], at: usize, stamp: Stamp) -> usize {
+    let behind = put_number(out, at, stamp.0);
+    padded(behind, columns_of(stamp.0), 14)
 }
