@@ -6,7 +6,9 @@
 //! Gives EXPLAIN logs of every event in every state, at and beside every stamp where a
 //! decision turns, with a list of pairs and without, and then COUNT random logs, accepted,
 //! refused and damaged, and long ones. All that it prints must be what model/explain.rs makes
-//! of the log, which finds by trying what an event would have decided sooner or later. Where
+//! of the log, which finds by trying what an event would have decided sooner or later; and
+//! with `--margins`, what model/margins.rs makes of it; and with `--why`, the sentence of that
+//! character. Where
 //! that is something else, trabeculon_step must give those words there, and a millisecond
 //! nearer still the event's own. Exit 0: all equal. Exit 1: a mismatch, printed. Exit 2: wrong
 //! arguments.
@@ -21,6 +23,7 @@ use trabeculon_model::damage::random_damaged;
 use trabeculon_model::explain::{explain, Explained, Slips, EXPLAIN_SLIPS, KINDS};
 use trabeculon_model::generate::{open, random_case, right_settings, typed_log};
 use trabeculon_model::log::{log_with, RawSettings};
+use trabeculon_model::margins::{self, MarginsSlip, MARGINS_SLIPS};
 use trabeculon_model::model::{step_with, Event, Machine, SLIPS};
 use trabeculon_model::notation;
 use trabeculon_model::pairs::{pair, Lent, NO_PAIRS};
@@ -32,7 +35,7 @@ const DEFAULT_COUNT: u64 = 1_000;
 const DEFAULT_SEED: u64 = 20_010_401;
 const NUMBERS: [u32; 9] = [0, 1, 3, 4, 5, 6, 7, 11, 12];
 
-type Arguments = arguments::Arguments<Slips>;
+type Arguments = arguments::Arguments<Wrong>;
 
 fn main() -> ExitCode {
     let words: Vec<String> = std::env::args().skip(1).collect();
@@ -43,10 +46,11 @@ fn main() -> ExitCode {
     let Some((program, arguments)) = read else {
         eprintln!("usage: compare_explain EXPLAIN [COUNT [SEED]] [--wrong-rule [NAME]]");
         let own = EXPLAIN_SLIPS.map(|(name, _)| name).join(", ");
+        let own = own + ", " + &MARGINS_SLIPS.map(|(name, _)| name).join(", ");
         eprintln!("names: {own},\n{}", SLIPS.map(|(name, _)| name).join(", "));
         return ExitCode::from(2);
     };
-    let mut compared = Compared { program: program.clone(), slips: arguments.wrong, ..Compared::default() };
+    let mut compared = Compared { program: program.clone(), wrong: arguments.wrong, ..Compared::default() };
     match compared.all(&arguments) {
         Ok(()) => ExitCode::SUCCESS,
         Err(message) => {
@@ -57,11 +61,13 @@ fn main() -> ExitCode {
 }
 
 fn read_arguments(words: &[String]) -> Option<Arguments> {
-    let usual = Arguments { count: DEFAULT_COUNT, seed: DEFAULT_SEED, wrong: Slips::default() };
+    let usual = Arguments { count: DEFAULT_COUNT, seed: DEFAULT_SEED, wrong: Wrong::default() };
     let first = Slips { machine: None, own: Some(EXPLAIN_SLIPS[0].1) };
-    Arguments::read(words, usual, first, |name| {
+    Arguments::read(words, usual, Wrong { slips: first, margins: None }, |name| {
         let slips = Slips { machine: named(&SLIPS, name), own: named(&EXPLAIN_SLIPS, name) };
-        (slips.machine.is_some() || slips.own.is_some()).then_some(slips)
+        let margins = named(&MARGINS_SLIPS, name);
+        let any = slips.machine.is_some() || slips.own.is_some() || margins.is_some();
+        any.then_some(Wrong { slips, margins })
     })
 }
 
@@ -69,7 +75,7 @@ fn read_arguments(words: &[String]) -> Option<Arguments> {
 #[derive(Default)]
 struct Compared {
     program: String,
-    slips: Slips,
+    wrong: Wrong,
     numbers: Tally<u32>,
     kinds: Tally<&'static str>,
     rows: u64,
@@ -107,16 +113,52 @@ impl Compared {
         println!("  {} other stamps, in the library too", self.tried);
     }
 
+    /// All that the program prints with some arguments.
+    fn prints(&self, arguments: &[&str], log: &[u8]) -> Result<(String, String), String> {
+        let program = &self.program;
+        let arguments: Vec<String> = arguments.iter().map(|word| word.to_string()).collect();
+        let ran = run(program, &arguments, log).map_err(|error| format!("{program}: {error}"))?;
+        let text = |bytes: &[u8]| String::from_utf8_lossy(bytes).into_owned();
+        Ok((text(&ran.stdout), text(&ran.stderr)))
+    }
+
+    /// What `--margins` prints of a log.
+    fn margins(&self, log: &[u8], right: &Explained) -> Result<(), String> {
+        let (printed, _) = self.prints(&["--margins"], log)?;
+        let text = margins::text(self.wrong.margins, &right.lent, right.settings, &right.seen);
+        match printed == text {
+            true => Ok(()),
+            false => Err(differ(log, &printed, &text)),
+        }
+    }
+
+    /// What `--why` prints of the first, a middle and the last committed character, and of one
+    /// that is not there.
+    fn why(&self, log: &[u8], right: &Explained) -> Result<(), String> {
+        let count = right.reasons.len();
+        for number in [1, count / 2 + 1, count.max(1), count + 1] {
+            let reason = right.reasons.get(number - 1);
+            let text = reason.map_or("", |reason| reason);
+            let (printed, said) = self.prints(&["--why", &number.to_string()], log)?;
+            if printed != text {
+                return Err(differ(log, &printed, text));
+            }
+            let name = if count == 1 { "character" } else { "characters" };
+            let missing = format!("explain: the log commits {count} {name} and no more\n");
+            if reason.is_none() != said.starts_with(&missing) {
+                return Err(differ(log, &said, &missing));
+            }
+        }
+        Ok(())
+    }
+
     /// One log through the program, the model and the library.
     fn log(&mut self, log: &[u8]) -> Result<(), String> {
-        let program = &self.program;
-        let ran = run(program, &[], log).map_err(|error| format!("{program}: {error}"))?;
-        let printed = String::from_utf8_lossy(&ran.stdout).into_owned();
-        let right = explain(self.slips, log, &printed);
+        let (printed, said) = self.prints(&[], log)?;
+        let right = explain(self.wrong.slips, log, &printed);
         if printed != right.text {
             return Err(differ(log, &printed, &right.text));
         }
-        let said = String::from_utf8_lossy(&ran.stderr).into_owned();
         let names = match right.number {
             0 => said.is_empty(),
             _ => said.starts_with(&format!("explain: record at byte {}: ", right.offset)),
@@ -125,6 +167,8 @@ impl Compared {
             let refused = format!("refused {} at {}", right.number, right.offset);
             return Err(differ(log, &said, &refused));
         }
+        self.margins(log, &right)?;
+        self.why(log, &right)?;
         in_library(&right).map_err(|what| format!("{what}\nlog      {}", cut_hex(log)))?;
         self.numbers.add(right.number);
         self.rows += right.rows;
@@ -132,6 +176,13 @@ impl Compared {
         self.tried += right.tried.len() as u64;
         Ok(())
     }
+}
+
+/// What the arguments put wrong: the model, or what `--margins` prints.
+#[derive(Clone, Copy, Default)]
+struct Wrong {
+    slips: Slips,
+    margins: Option<MarginsSlip>,
 }
 
 /// The library commits at the other stamps what was said.

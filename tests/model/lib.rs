@@ -14,6 +14,7 @@ pub mod lines;
 pub mod lists;
 pub mod live;
 pub mod log;
+pub mod margins;
 pub mod mend;
 pub mod model;
 pub mod moved;
