@@ -5,7 +5,7 @@ use notation::Field;
 use transcriber::Place;
 
 pub fn print_usage(fd: i32) {
-    io::write_all(fd, b"usage: transcribe < TEXT > LOG\n");
+    io::write_all(fd, b"usage: transcribe [TEXT] > LOG\n");
     io::write_all(
         fd,
         b"Writes the log of keystrokes that are written as text, with commas or line ends between them:\n",
@@ -18,12 +18,13 @@ pub fn print_usage(fd: i32) {
         fd,
         b"# begins a comment. Whether a log is accepted is not asked here: play tells.\n",
     );
+    io::write_all(fd, b"Without TEXT, standard input is read.\n");
 }
 
 pub fn print_longer() {
     io::write_all(
         STDERR_FILENO,
-        b"transcribe: standard input: longer than 262144 bytes\n",
+        b"transcribe: the text is longer than 262144 bytes\n",
     );
 }
 
