@@ -1,8 +1,9 @@
 // Reads keystrokes as text from a file or standard input and writes their log to standard output.
 //
-// The text is read whole, into one buffer of 262,144 bytes, and the log is made in one of 1,048,576. Where a text is no notation, or
-// is longer, or its log is, nothing is written to standard output, and standard error says why. So it is where the text can't be opened,
-// or read to its end. Where standard output can't be written, standard error says why, and some of the log may have been written.
+// The text is read whole, into one buffer of 4,194,432 bytes, as long as `notate` makes one, and the log is made in one of 1,048,576.
+// Where a text is no notation, or is longer, or its log is, nothing is written to standard output, and standard error says why. So it is
+// where the text can't be opened, or read to its end. Where standard output can't be written, standard error says why, and some of the log
+// may have been written.
 mod messages;
 
 use input::Asked;
@@ -14,7 +15,7 @@ ghost use mathlib.Core.Path.{_≡_};
 ghost use lib.ListN.{length};
 ghost use Rattle.transcribe.specs.Answers.{text-room, log-room, Within};
 
-const TEXT_ROOM: usize = 262144;
+const TEXT_ROOM: usize = 4194432;
 
 const LOG_ROOM: usize = 1048576;
 
