@@ -163,12 +163,21 @@ fn check_damaged(programs: &Programs) -> Result<(), String> {
     Ok(())
 }
 
-/// How to use it: printed for `--help` and for arguments that are not four numbers.
-/// What it says, and where, is looked at by tests/messages.
+/// How to use it: printed for `--help` and for arguments that are not four numbers, a file's
+/// name or both. What it says, and where, is looked at by tests/messages.
 fn check_usage(programs: &Programs) -> Result<(), String> {
-    for words in
-        ["--help", "100", "100 50 50", "100 50 50 0 0", "100 50 50 x", "a b c d", "-1 50 50 0"]
-    {
+    for words in [
+        "--help",
+        "-100",
+        "100 50",
+        "100 50 50",
+        "100 50 50 x",
+        "a b c d",
+        "-1 50 50 0",
+        "100 50 50 0 -0",
+        "100 50 50 x line",
+        "100 50 50 0 0 0",
+    ] {
         let words: Vec<String> = words.split_whitespace().map(String::from).collect();
         let got = started(programs.drill, &words, "さ\n".as_bytes())?;
         let printed = [got.stdout, got.stderr].concat();

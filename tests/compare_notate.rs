@@ -20,9 +20,8 @@ use trabeculon_model::tally::Tally;
 
 const DEFAULT_COUNT: u64 = 2_000;
 const DEFAULT_SEED: u64 = 20_010_401;
-/// The longest log that is notated, and the longest text that is transcribed.
+/// The longest log that is notated; its text can be transcribed.
 const LONGEST: usize = 1_048_576;
-const LONGEST_TEXT: usize = 262_144;
 const NUMBERS: [u32; 9] = [0, 1, 3, 4, 5, 6, 7, 11, 12];
 
 /// A wrong rule for the lines made here, so that the comparison must find something.
@@ -142,11 +141,9 @@ fn compare(
     if !names || said.lines().count() > 1 {
         return Err(differ(log, &said, &format!("refused {} at {offset}", answer.number)));
     }
-    if right.len() <= LONGEST_TEXT {
-        let back = run(transcribe, &[], &ran.stdout).map_err(|e| format!("{transcribe}: {e}"))?;
-        if back.stdout != log[..offset] {
-            return Err(differ(log, &cut_hex(&back.stdout), &cut_hex(&log[..offset])));
-        }
+    let back = run(transcribe, &[], &ran.stdout).map_err(|e| format!("{transcribe}: {e}"))?;
+    if back.stdout != log[..offset] {
+        return Err(differ(log, &cut_hex(&back.stdout), &cut_hex(&log[..offset])));
     }
     Ok(answer.number)
 }

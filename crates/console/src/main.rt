@@ -1,7 +1,7 @@
-// Reads a console's log from standard input and prints, for each keyboard that it names, its line and what waits there or was refused.
+// Reads a console's log from a file or standard input and prints, for each keyboard that it names, its line and what waits there or was refused.
 //
-// The log is read whole, into one buffer of 1,048,576 bytes. Of a longer one nothing is read: `refused 9 at 1048576`. Where standard
-// input can't be read to its end, standard error says why, and nothing is printed. Where standard output can't be written, standard
+// The log is read whole, into one buffer of 1,048,576 bytes. Of a longer one nothing is read: `refused 9 at 1048576`. Where the log
+// can't be opened, or read to its end, standard error says why, and nothing is printed. Where standard output can't be written, standard
 // error says why, and some of the text may have been written.
 mod messages;
 
@@ -57,19 +57,31 @@ fn print_log(log: &[u8], out: &mut [u8])
     print_text(shown, out);
 }
 
-fn run() {
+fn run(fd: i32, label: &[u8]) {
     let mut log = with_log([0; LONGEST_LOG]);
     let mut out = with_text([0; TEXT_ROOM]);
-    match input::read(&mut log) {
+    match input::read(fd, &mut log) {
         Input::Whole(n) => print_log(&log[..n], &mut out),
         Input::Longer => print(b"refused 9 at 1048576\n"),
-        Input::Failed => os::fail(b"console: standard input"),
+        Input::Failed => os::fail(label),
     }
+}
+
+// Runs on the file that argument i names, or for 0 on standard input.
+fn run_on(i: usize) {
+    let mut buf = io::buffer();
+    let n = input::label(b"console: ", i, &mut buf);
+    let fd = input::open(i);
+    if fd < 0 {
+        os::fail(&buf[..n]);
+        return;
+    }
+    run(fd, &buf[..n]);
 }
 
 fn main() {
     match input::read_arguments() {
-        Asked::Work => run(),
+        Asked::Work(i) => run_on(i),
         Asked::Help => messages::print_usage(STDOUT_FILENO),
         Asked::Unclear => messages::print_usage(STDERR_FILENO),
     }

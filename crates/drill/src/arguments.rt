@@ -3,7 +3,8 @@ use decimals::Number;
 use rules::Settings;
 
 pub enum Asked {
-    Drill(Settings),
+    // A drill with these settings, of the file that this argument names, or for 0 of standard input.
+    Drill(Settings, usize),
     Help,
     Unclear,
 }
@@ -32,8 +33,8 @@ fn byte_argument(i: usize) -> Byte {
     }
 }
 
-// T J L SOLO.
-fn settings() -> Asked {
+// T J L SOLO, and what is drilled.
+fn with_settings(i: usize) -> Asked {
     let Number::Value(t) = argument(1) else {
         return Asked::Unclear;
     };
@@ -46,15 +47,16 @@ fn settings() -> Asked {
     let Byte::Value(solo) = byte_argument(4) else {
         return Asked::Unclear;
     };
-    Asked::Drill(Settings {
+    let settings = Settings {
         t: t,
         j: j,
         l: l,
         solo: solo,
-    })
+    };
+    Asked::Drill(settings, i)
 }
 
-// The settings where there are no arguments.
+// The settings where none are given.
 fn usual() -> Settings {
     Settings {
         t: 100,
@@ -64,19 +66,31 @@ fn usual() -> Settings {
     }
 }
 
+// A file's name alone, or `--help`.
+fn with_name() -> Asked {
+    match input::read_argument(1) {
+        input::Asked::Work(i) => Asked::Drill(usual(), i),
+        input::Asked::Help => Asked::Help,
+        input::Asked::Unclear => Asked::Unclear,
+    }
+}
+
+// T J L SOLO and a file's name.
+fn with_both() -> Asked {
+    match input::read_argument(5) {
+        input::Asked::Work(i) => with_settings(i),
+        input::Asked::Help => Asked::Unclear,
+        input::Asked::Unclear => Asked::Unclear,
+    }
+}
+
 pub fn read() -> Asked {
-    let count = os::arg_count();
     // The program's own name is one of them.
-    if count <= 1 {
-        return Asked::Drill(usual());
+    match os::arg_count() {
+        0 | 1 => Asked::Drill(usual(), 0),
+        2 => with_name(),
+        5 => with_settings(0),
+        6 => with_both(),
+        _ => Asked::Unclear,
     }
-    if count == 2 {
-        if input::help_asked() {
-            return Asked::Help;
-        }
-    }
-    if count == 5 {
-        return settings();
-    }
-    Asked::Unclear
 }

@@ -1,7 +1,7 @@
-// Reads a line of text from standard input and writes the log that plays it to standard output.
+// Reads a line of text from a file or standard input and writes the log that plays it to standard output.
 //
 // Where a text has no log, or the arguments are no settings, nothing is written to standard output, and standard error says why.
-// So it is where standard input can't be read to its end. Where standard output can't be written, standard error says why, and some
+// So it is where the text can't be opened, or read to its end. Where standard output can't be written, standard error says why, and some
 // of the log may have been written.
 mod arguments;
 mod lines;
@@ -51,7 +51,7 @@ fn print_longer(start: &[u8])
 {
     io::write_all(
         STDERR_FILENO,
-        b"drill: standard input: longer than 65536 bytes\n",
+        b"drill: the text is longer than 65536 bytes\n",
     );
 }
 
@@ -83,19 +83,31 @@ fn print_drill(settings: Settings, text: &[u8], log: &mut [u8])
 }
 
 // Reads a text and prints what it gives.
-fn run(settings: Settings) {
+fn run(settings: Settings, fd: i32, label: &[u8]) {
     let mut text = text_buffer();
     let mut log = log_buffer();
-    match input::read(&mut text) {
+    match input::read(fd, &mut text) {
         Input::Whole(n) => print_drill(settings, &text[..n], &mut log),
         Input::Longer => print_longer(&text),
-        Input::Failed => os::fail(b"drill: standard input"),
+        Input::Failed => os::fail(label),
     }
+}
+
+// Runs on the file that argument i names, or for 0 on standard input.
+fn run_on(settings: Settings, i: usize) {
+    let mut buf = io::buffer();
+    let n = input::label(b"drill: ", i, &mut buf);
+    let fd = input::open(i);
+    if fd < 0 {
+        os::fail(&buf[..n]);
+        return;
+    }
+    run(settings, fd, &buf[..n]);
 }
 
 fn main() {
     match arguments::read() {
-        Asked::Drill(settings) => run(settings),
+        Asked::Drill(settings, i) => run_on(settings, i),
         Asked::Help => messages::print_usage(STDOUT_FILENO),
         Asked::Unclear => messages::print_usage(STDERR_FILENO),
     }

@@ -11,7 +11,7 @@ enum Stranger {
 }
 
 pub fn print_usage(fd: i32) {
-    io::write_all(fd, b"usage: drill [T J L SOLO] < LINE > LOG\n");
+    io::write_all(fd, b"usage: drill [T J L SOLO] [LINE] > LOG\n");
     io::write_all(
         fd,
         b"Writes the log that plays a line of UTF-8 text. T is 50 to 1000 milliseconds, J and L are 1\n",
@@ -24,7 +24,10 @@ pub fn print_usage(fd: i32) {
         fd,
         b"bytes with its line end, that is at most 21845 characters. Where a line has no log, nothing is\n",
     );
-    io::write_all(fd, b"written, and standard error says why.\n");
+    io::write_all(
+        fd,
+        b"written, and standard error says why. LINE is a file with the line; without it, standard input is read.\n",
+    );
 }
 
 // Where in the line, and a line end.

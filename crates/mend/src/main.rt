@@ -1,8 +1,8 @@
-// Reads a damaged log from standard input and writes the mended one to standard output. Standard error says what was dropped.
+// Reads a damaged log from a file or standard input and writes the mended one to standard output. Standard error says what was dropped.
 //
-// The log is read whole, into one buffer of 1,048,576 bytes. Of a longer one nothing is read, and standard error says so. Where standard
-// input can't be read to its end, standard error says why, and nothing is written. Where standard output can't be written, standard error
-// says why, and some of the log may have been written.
+// The log is read whole, into one buffer of 1,048,576 bytes. Of a longer one nothing is read, and standard error says so. Where the log
+// can't be opened, or read to its end, standard error says why, and nothing is written. Where standard output can't be written, standard
+// error says why, and some of the log may have been written.
 mod messages;
 
 use input::Asked;
@@ -48,20 +48,32 @@ fn mend_log(log: &[u8], out: &mut [u8], list: &mut [u64]) {
     messages::print_refused(mended.number);
 }
 
-fn run() {
+fn run(fd: i32, label: &[u8]) {
     let mut log = with_log([0; LONGEST]);
     let mut out = with_log([0; LONGEST]);
     let mut list = [0u64; LIST_ROOM];
-    match input::read(&mut log) {
+    match input::read(fd, &mut log) {
         Input::Whole(n) => mend_log(&log[..n], &mut out, &mut list),
         Input::Longer => messages::print_too_long(),
-        Input::Failed => os::fail(b"mend: standard input"),
+        Input::Failed => os::fail(label),
     }
+}
+
+// Runs on the file that argument i names, or for 0 on standard input.
+fn run_on(i: usize) {
+    let mut buf = io::buffer();
+    let n = input::label(b"mend: ", i, &mut buf);
+    let fd = input::open(i);
+    if fd < 0 {
+        os::fail(&buf[..n]);
+        return;
+    }
+    run(fd, &buf[..n]);
 }
 
 fn main() {
     match input::read_arguments() {
-        Asked::Work => run(),
+        Asked::Work(i) => run_on(i),
         Asked::Help => messages::print_usage(STDOUT_FILENO),
         Asked::Unclear => messages::print_usage(STDERR_FILENO),
     }

@@ -4,7 +4,7 @@ ghost use Prim.Native.Nat.{_*_, _≤_};
 ghost use lib.ListN.{length};
 
 pub fn print_usage(fd: i32) {
-    io::write_all(fd, b"usage: mend < DAMAGED > LOG\n");
+    io::write_all(fd, b"usage: mend [DAMAGED] > LOG\n");
     io::write_all(
         fd,
         b"Copies the records of a log that the reader accepts after the ones already copied, and drops the others.\n",
@@ -21,6 +21,7 @@ pub fn print_usage(fd: i32) {
         fd,
         b"is refused: nothing is written, and standard error says `refused N`. So is one of more than 1048576 bytes.\n",
     );
+    io::write_all(fd, b"Without DAMAGED, standard input is read.\n");
 }
 
 // Why a log is refused.

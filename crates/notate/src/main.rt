@@ -1,9 +1,9 @@
-// Reads a log from standard input and writes its keystrokes as text to standard output, as `transcribe` reads them.
+// Reads a log from a file or standard input and writes its keystrokes as text to standard output, as `transcribe` reads them.
 //
 // The log is read whole, into one buffer of 1,048,576 bytes, and the text is made in one of 4,194,432. Of a refused log the text is that of
 // the records before the refused one; a comment in the last line, and standard error, say which record is refused and why. Of a log that
-// is longer nothing is written, and standard error says so. So it is where standard input can't be read to its end. Where standard output
-// can't be written, standard error says why, and some of the text may have been written.
+// is longer nothing is written, and standard error says so. So it is where the log can't be opened, or read to its end. Where standard
+// output can't be written, standard error says why, and some of the text may have been written.
 mod messages;
 
 use input::Asked;
@@ -68,19 +68,31 @@ fn print_log(log: &[u8], out: &mut [u8])
     print_text(notated, out);
 }
 
-fn run() {
+fn run(fd: i32, label: &[u8]) {
     let mut log = with_log([0; LONGEST_LOG]);
     let mut out = with_text([0; TEXT_ROOM]);
-    match input::read(&mut log) {
+    match input::read(fd, &mut log) {
         Input::Whole(n) => print_log(&log[..n], &mut out),
         Input::Longer => messages::print_longer(),
-        Input::Failed => os::fail(b"notate: standard input"),
+        Input::Failed => os::fail(label),
     }
+}
+
+// Runs on the file that argument i names, or for 0 on standard input.
+fn run_on(i: usize) {
+    let mut buf = io::buffer();
+    let n = input::label(b"notate: ", i, &mut buf);
+    let fd = input::open(i);
+    if fd < 0 {
+        os::fail(&buf[..n]);
+        return;
+    }
+    run(fd, &buf[..n]);
 }
 
 fn main() {
     match input::read_arguments() {
-        Asked::Work => run(),
+        Asked::Work(i) => run_on(i),
         Asked::Help => messages::print_usage(STDOUT_FILENO),
         Asked::Unclear => messages::print_usage(STDERR_FILENO),
     }

@@ -2,7 +2,7 @@
 use libc::STDERR_FILENO;
 
 pub fn print_usage(fd: i32) {
-    io::write_all(fd, b"usage: notate < LOG > TEXT\n");
+    io::write_all(fd, b"usage: notate [LOG] > TEXT\n");
     io::write_all(
         fd,
         b"Writes the keystrokes of a recorded log as text, one record a line:\n",
@@ -19,6 +19,7 @@ pub fn print_usage(fd: i32) {
         fd,
         b"a last line `# refused N at OFFSET: ..`, and standard error, say why. A log has at most 1048576 bytes.\n",
     );
+    io::write_all(fd, b"Without LOG, standard input is read.\n");
 }
 
 // What a log's number means, on standard error. Nothing for 0.

@@ -1,7 +1,7 @@
-// Reads a log from standard input and prints the second opinion on it, in the form in which `play` prints what the reader says.
+// Reads a log from a file or standard input and prints the second opinion on it, in the form in which `play` prints what the reader says.
 //
-// The log is read whole, into one buffer of 1,048,576 bytes. Of a longer one nothing is read: `refused 9 at 1048576`. Where standard
-// input can't be read to its end, standard error says why, and nothing is printed. Where standard output can't be written, standard
+// The log is read whole, into one buffer of 1,048,576 bytes. Of a longer one nothing is read: `refused 9 at 1048576`. Where the log
+// can't be opened, or read to its end, standard error says why, and nothing is printed. Where standard output can't be written, standard
 // error says why, and some of the text may have been written.
 mod messages;
 
@@ -63,19 +63,31 @@ fn print_log(log: &[u8], out: &mut [u8])
     print_text(shown, out);
 }
 
-fn run() {
+fn run(fd: i32, label: &[u8]) {
     let mut log = with_log([0; LONGEST_LOG]);
     let mut out = with_text([0; TEXT_ROOM]);
-    match input::read(&mut log) {
+    match input::read(fd, &mut log) {
         Input::Whole(n) => print_log(&log[..n], &mut out),
         Input::Longer => print(b"refused 9 at 1048576\n", 9, 1048576),
-        Input::Failed => os::fail(b"opinion: standard input"),
+        Input::Failed => os::fail(label),
     }
+}
+
+// Runs on the file that argument i names, or for 0 on standard input.
+fn run_on(i: usize) {
+    let mut buf = io::buffer();
+    let n = input::label(b"opinion: ", i, &mut buf);
+    let fd = input::open(i);
+    if fd < 0 {
+        os::fail(&buf[..n]);
+        return;
+    }
+    run(fd, &buf[..n]);
 }
 
 fn main() {
     match input::read_arguments() {
-        Asked::Work => run(),
+        Asked::Work(i) => run_on(i),
         Asked::Help => messages::print_usage(STDOUT_FILENO),
         Asked::Unclear => messages::print_usage(STDERR_FILENO),
     }

@@ -2,7 +2,7 @@
 use libc::STDERR_FILENO;
 
 pub fn print_usage(fd: i32) {
-    io::write_all(fd, b"usage: opinion < LOG\n");
+    io::write_all(fd, b"usage: opinion [LOG]\n");
     io::write_all(
         fd,
         b"Prints the second opinion on a recorded log, which is what `play` prints of it: the line, and below it\n",
@@ -13,7 +13,7 @@ pub fn print_usage(fd: i32) {
     );
     io::write_all(
         fd,
-        b"pairs is refused 14. A log of more than 1048576 bytes is refused 9.\n",
+        b"pairs is refused 14. A log of more than 1048576 bytes is refused 9. Without LOG, standard input is read.\n",
     );
 }
 

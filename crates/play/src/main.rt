@@ -1,8 +1,8 @@
-// Reads a log from standard input and prints its line, and what waits or was refused.
+// Reads a log from a file or standard input and prints its line, and what waits or was refused.
 //
 // The log is read through one buffer, filled again and again, and what a piece brings is printed before the next is read. So a log of
-// any length takes the same memory, and a slow line is printed as it comes. What a refusal means is said on standard error. Where
-// standard input can't be read to its end, standard error says why, and the line as far as it was printed stands, with no status below
+// any length takes the same memory, and a slow line is printed as it comes. What a refusal means is said on standard error. Where the
+// log can't be opened, or read to its end, standard error says why, and the line as far as it was printed stands, with no status below
 // it: what was read is not the log. Where standard output can't be written, standard error says why, and some of the text may have been
 // written.
 mod messages;
@@ -116,14 +116,14 @@ fn finish(reader: Reader, list: &[u32], out: &mut [u8])
 }
 
 // Reads a log piece by piece to its end. It comes to one: each piece has a byte at least, and the reader counts them.
-fn play_log(log: &mut [u8], list: &mut [u32], out: &mut [u8])
+fn play_log(fd: i32, label: &[u8], log: &mut [u8], list: &mut [u32], out: &mut [u8])
     requires { ⌜ buffer ≡ length (now log) ⌝ }
     requires { ⌜ room ≡ length (now list) ⌝ }
     requires { ⌜ text-room ≡ length (now out) ⌝ }
 {
     let mut reader = log_reader::fresh();
     loop {
-        match input::read_piece(log) {
+        match input::read_from(fd, log) {
             Piece::Bytes(n) => match play_piece(reader, list, &log[..n], out) {
                 Turn::More(next) => reader = next,
                 Turn::Refused(last) => {
@@ -137,23 +137,35 @@ fn play_log(log: &mut [u8], list: &mut [u32], out: &mut [u8])
                 return;
             }
             Piece::Failed => {
-                os::fail(b"play: standard input");
+                os::fail(label);
                 return;
             }
         }
     }
 }
 
-fn run() {
+fn run(fd: i32, label: &[u8]) {
     let mut log = log_buffer();
     let mut list = log_reader::pair_buffer();
     let mut out = text_buffer();
-    play_log(&mut log, &mut list, &mut out);
+    play_log(fd, label, &mut log, &mut list, &mut out);
+}
+
+// Runs on the file that argument i names, or for 0 on standard input.
+fn run_on(i: usize) {
+    let mut buf = io::buffer();
+    let n = input::label(b"play: ", i, &mut buf);
+    let fd = input::open(i);
+    if fd < 0 {
+        os::fail(&buf[..n]);
+        return;
+    }
+    run(fd, &buf[..n]);
 }
 
 fn main() {
     match input::read_arguments() {
-        Asked::Work => run(),
+        Asked::Work(i) => run_on(i),
         Asked::Help => messages::print_usage(STDOUT_FILENO),
         Asked::Unclear => messages::print_usage(STDERR_FILENO),
     }

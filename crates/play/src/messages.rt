@@ -3,7 +3,7 @@ use libc::STDERR_FILENO;
 ghost use mathlib.Core.Logic.{_≢_};
 
 pub fn print_usage(fd: i32) {
-    io::write_all(fd, b"usage: play < LOG\n");
+    io::write_all(fd, b"usage: play [LOG]\n");
     io::write_all(
         fd,
         b"Prints the line that a recorded log gives, and below it `waiting N`, or `refused N at OFFSET`,\n",
@@ -12,6 +12,7 @@ pub fn print_usage(fd: i32) {
         fd,
         b"where standard error says what the refusal means. The line is printed as the log arrives.\n",
     );
+    io::write_all(fd, b"Without LOG, standard input is read.\n");
 }
 
 // What a log's number means, on standard error. Nothing for 0. The reader is well formed and has room, so 2 and 8 don't come, and 10 is

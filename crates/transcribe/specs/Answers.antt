@@ -5,7 +5,7 @@ use Rattle.transcriber.specs.declared.Transcribed.the-variants.{Log, Wrong, NoR
 
 -- the program's buffers, in bytes
 abbrev pub text-room : ℕ
-text-room = 262144
+text-room = 4194432
 
 abbrev pub log-room : ℕ
 log-room = 1048576

@@ -1,8 +1,9 @@
-// Reads keystrokes as text from standard input and writes their log to standard output.
+// Reads keystrokes as text from a file or standard input and writes their log to standard output.
 //
-// The text is read whole, into one buffer of 262,144 bytes, and the log is made in one of 1,048,576. Where a text is no notation, or
-// is longer, or its log is, nothing is written to standard output, and standard error says why. So it is where standard input can't be
-// read to its end. Where standard output can't be written, standard error says why, and some of the log may have been written.
+// The text is read whole, into one buffer of 4,194,432 bytes, as long as `notate` makes one, and the log is made in one of 1,048,576.
+// Where a text is no notation, or is longer, or its log is, nothing is written to standard output, and standard error says why. So it is
+// where the text can't be opened, or read to its end. Where standard output can't be written, standard error says why, and some of the log
+// may have been written.
 mod messages;
 
 use input::Asked;
@@ -14,7 +15,7 @@ ghost use mathlib.Core.Path.{_≡_};
 ghost use lib.ListN.{length};
 ghost use Rattle.transcribe.specs.Answers.{text-room, log-room, Within};
 
-const TEXT_ROOM: usize = 262144;
+const TEXT_ROOM: usize = 4194432;
 
 const LOG_ROOM: usize = 1048576;
 
@@ -54,19 +55,31 @@ fn print_log(text: &[u8], log: &mut [u8]) {
     show(answer, log);
 }
 
-fn run() {
+fn run(fd: i32, label: &[u8]) {
     let mut text = with_text([0; TEXT_ROOM]);
     let mut log = with_log([0; LOG_ROOM]);
-    match input::read(&mut text) {
+    match input::read(fd, &mut text) {
         Input::Whole(n) => print_log(&text[..n], &mut log),
         Input::Longer => messages::print_longer(),
-        Input::Failed => os::fail(b"transcribe: standard input"),
+        Input::Failed => os::fail(label),
     }
+}
+
+// Runs on the file that argument i names, or for 0 on standard input.
+fn run_on(i: usize) {
+    let mut buf = io::buffer();
+    let n = input::label(b"transcribe: ", i, &mut buf);
+    let fd = input::open(i);
+    if fd < 0 {
+        os::fail(&buf[..n]);
+        return;
+    }
+    run(fd, &buf[..n]);
 }
 
 fn main() {
     match input::read_arguments() {
-        Asked::Work => run(),
+        Asked::Work(i) => run_on(i),
         Asked::Help => messages::print_usage(STDOUT_FILENO),
         Asked::Unclear => messages::print_usage(STDERR_FILENO),
     }

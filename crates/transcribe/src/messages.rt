@@ -5,7 +5,7 @@ use notation::Field;
 use transcriber::Place;
 
 pub fn print_usage(fd: i32) {
-    io::write_all(fd, b"usage: transcribe < TEXT > LOG\n");
+    io::write_all(fd, b"usage: transcribe [TEXT] > LOG\n");
     io::write_all(
         fd,
         b"Writes the log of keystrokes that are written as text, with commas or line ends between them:\n",
@@ -16,14 +16,18 @@ pub fn print_usage(fd: i32) {
     );
     io::write_all(
         fd,
-        b"# begins a comment. Whether a log is accepted is not asked here: play tells.\n",
+        b"# begins a comment. Whether a log is accepted is not asked here: play tells. A text has at most 4194432\n",
+    );
+    io::write_all(
+        fd,
+        b"bytes, and its log 1048576. Without TEXT, standard input is read.\n",
     );
 }
 
 pub fn print_longer() {
     io::write_all(
         STDERR_FILENO,
-        b"transcribe: standard input: longer than 262144 bytes\n",
+        b"transcribe: the text is longer than 4194432 bytes\n",
     );
 }
 

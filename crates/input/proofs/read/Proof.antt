@@ -9,10 +9,10 @@ use Rattle.input.proofs.read.Statement.{statement}
 use Rattle.input.proofs.read.Tie as tie
 
 abbrev Inv-loop : tie.InvT-loop
-Inv-loop buf₀ n₀ buf n = (length buf ≡ length buf₀) × (n ≤ length buf)
+Inv-loop fd buf₀ n₀ buf n = (length buf ≡ length buf₀) × (n ≤ length buf)
 
 abbrev μ-loop : tie.MeasureT-loop
-μ-loop buf₀ n₀ buf n = length buf - n
+μ-loop fd buf₀ n₀ buf n = length buf - n
 
 add-n : tie.Need-add-n Inv-loop μ-loop
 add-n c =
@@ -20,7 +20,7 @@ add-n c =
     omega (
       arith,
       read-on (l .before .loop .buf) (l .before .loop .n) _ _ (l .loop-test .taken) (c .before .k .given .1)
-          (c .before .before .before .before .before .read-piece .ensures),
+          (c .before .before .before .before .before .read-from .ensures),
     )
 
 loop-less : tie.Need-loop-less Inv-loop μ-loop
@@ -29,7 +29,7 @@ loop-less c =
     omega (
       arith,
       read-on (l .before .loop .buf) (l .before .loop .n) _ _ (l .loop-test .taken) (c .before .k .given .1)
-          (c .before .before .before .before .before .read-piece .ensures),
+          (c .before .before .before .before .before .read-from .ensures),
       c .before .before .before .before .buf .given,
     )
 
@@ -41,7 +41,7 @@ loop-again c =
       omega (
         arith,
         read-on (l .before .loop .buf) (l .before .loop .n) _ _ (l .loop-test .taken) (c .before .k .given .1)
-            (c .before .before .before .before .before .read-piece .ensures),
+            (c .before .before .before .before .before .read-from .ensures),
         k,
       ),
     )
