@@ -255,12 +255,17 @@ struct Frame {
     axis: Axis,
 }
 
+/// An axis has so many units, so that the milliseconds of a second can be told apart.
+const NARROWEST: u64 = 1_000;
+
 /// The axis of a picture.
 pub fn axis(svg: &Element) -> Result<Axis, String> {
     let axis: Vec<&Element> = svg.children.iter().filter(|child| is(child, "line", "axis")).collect();
-    match axis[..] {
-        [line] => Ok(Axis { left: line.number("x1")?, right: line.number("x2")? }),
-        _ => Err(format!("{} axes", axis.len())),
+    let [line] = axis[..] else { return Err(format!("{} axes", axis.len())) };
+    let axis = Axis { left: line.number("x1")?, right: line.number("x2")? };
+    match axis.left + NARROWEST <= axis.right {
+        true => Ok(axis),
+        false => Err(format!("the axis is too short: {} to {}", axis.left, axis.right)),
     }
 }
 
