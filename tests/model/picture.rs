@@ -31,6 +31,8 @@ pub enum PictureSlip {
     CommitAtPress,
     /// Of two committed characters one is shown.
     FirstOnly,
+    /// An empty face is not shown.
+    EmptyUnshown,
     /// Sooner for later.
     MarginTurned,
     /// A millisecond more.
@@ -41,7 +43,7 @@ pub enum PictureSlip {
     GapEverywhere,
 }
 
-pub const PICTURE_SLIPS: [(&str, PictureSlip); 14] = [
+pub const PICTURE_SLIPS: [(&str, PictureSlip); 15] = [
     ("bar-to-the-next", PictureSlip::BarToTheNext),
     ("release-missed", PictureSlip::ReleaseMissed),
     ("any-release", PictureSlip::AnyRelease),
@@ -52,6 +54,7 @@ pub const PICTURE_SLIPS: [(&str, PictureSlip); 14] = [
     ("due-at-the-end", PictureSlip::DueAtTheEnd),
     ("commit-at-press", PictureSlip::CommitAtPress),
     ("first-only", PictureSlip::FirstOnly),
+    ("empty-unshown", PictureSlip::EmptyUnshown),
     ("margin-turned", PictureSlip::MarginTurned),
     ("margin-one-more", PictureSlip::MarginOneMore),
     ("gap-since-the-last", PictureSlip::GapSinceTheLast),
@@ -195,14 +198,13 @@ impl Drawing<'_> {
         (due <= self.last()).then(|| shape("due", "deadlines", (x, x), String::new()))
     }
 
-    /// What an event committed, what decided and how close it was. Where an empty face comes
-    /// first nothing is seen of it, so that nothing is said of how close it was either.
+    /// What an event committed, what decided and how close it was.
     fn committed(&self, place: usize) -> Vec<Shape> {
         let Seen { event, began, ref words, margin, .. } = self.seen[place];
         let x = self.across(event.stamp);
         let most = if self.is(PictureSlip::FirstOnly) { 1 } else { 2 };
-        let signs: String = words.iter().filter(|word| **word != 0).take(most).map(|word| sign(*word)).collect();
-        if signs.is_empty() {
+        let signs: String = words.iter().take(most).map(|word| sign(*word)).collect();
+        if words.is_empty() || (self.is(PictureSlip::EmptyUnshown) && words[..] == [0]) {
             return vec![];
         }
         let at = match began {
@@ -210,16 +212,14 @@ impl Drawing<'_> {
             _ => x,
         };
         let mut shapes = vec![shape("committed", "committed", (at, at), signs)];
-        if words.first() != Some(&0) {
-            shapes.extend(margin.map(|margin| shape("margin", "margin", (x, x), self.margin(margin))));
-            let since = match self.is(PictureSlip::GapSinceTheLast) {
-                true => place.checked_sub(1).map(|before| self.seen[before].event.stamp),
-                false => began,
-            };
-            let close = margin.is_some() || self.is(PictureSlip::GapEverywhere);
-            let since = since.filter(|since| close && *since < event.stamp);
-            shapes.extend(since.into_iter().flat_map(|since| self.gap(since, event.stamp)));
-        }
+        shapes.extend(margin.map(|margin| shape("margin", "margin", (x, x), self.margin(margin))));
+        let since = match self.is(PictureSlip::GapSinceTheLast) {
+            true => place.checked_sub(1).map(|before| self.seen[before].event.stamp),
+            false => began,
+        };
+        let close = margin.is_some() || self.is(PictureSlip::GapEverywhere);
+        let since = since.filter(|since| close && *since < event.stamp);
+        shapes.extend(since.into_iter().flat_map(|since| self.gap(since, event.stamp)));
         shapes
     }
 
@@ -239,9 +239,10 @@ impl Drawing<'_> {
     }
 }
 
-/// A word as a picture has it: two code points may not stand in XML.
+/// A word as a picture has it, an empty face as `-`: two code points may not stand in XML.
 fn sign(word: u16) -> String {
     match word {
+        0 => "-".to_string(),
         0xfffe | 0xffff => "?".to_string(),
         _ => text(word),
     }

@@ -12,6 +12,7 @@ use engine::Times;
 use margins::Due;
 use rules::Event;
 use rules::Face;
+use rules::Item;
 use rules::Key;
 use rules::Lag;
 use rules::Machine;
@@ -32,10 +33,12 @@ const KIND: u64 = 1;
 
 const KEY: u64 = 2;
 
-// The words of what it committed, 0 for none.
+// The words of what it committed, 0 for none, EMPTY for an empty face.
 const FIRST: u64 = 3;
 
 const SECOND: u64 = 4;
+
+const EMPTY: u64 = 65536;
 
 // When the state before it began; where nothing rested, the event's own stamp.
 const BEGAN: u64 = 5;
@@ -51,7 +54,7 @@ const LATER: u64 = 8;
 // Where the first stamp stands, and the last.
 const LEFT: u64 = 84;
 
-const RIGHT: u64 = 1170;
+const RIGHT: u64 = 1140;
 
 // The rows: letters by the keyboard's rows D, C and B, then the thumbs, the deadlines, what was committed, what decided, and its margin.
 const ROW_D: u64 = 36;
@@ -136,9 +139,32 @@ fn keep_event(rows: &mut [u64], i: u64, held: u32, event: Event) {
     set(rows, i, KEY, key.0 as u64);
 }
 
+fn kept(item: Item) -> u64 {
+    let word = layout::word(item);
+    if word == 0 {
+        return EMPTY;
+    }
+    word as u64
+}
+
+fn first_kept(items: Items) -> u64 {
+    match items {
+        Items::None => 0,
+        Items::One(item) => kept(item),
+        Items::Two(item, _) => kept(item),
+    }
+}
+
+fn second_kept(items: Items) -> u64 {
+    match items {
+        Items::Two(_, item) => kept(item),
+        _ => 0,
+    }
+}
+
 fn keep_items(rows: &mut [u64], i: u64, items: Items, margin: Margin) {
-    set(rows, i, FIRST, summary::first_word(items) as u64);
-    set(rows, i, SECOND, summary::second_word(items) as u64);
+    set(rows, i, FIRST, first_kept(items));
+    set(rows, i, SECOND, second_kept(items));
     set(rows, i, MARGIN, margin.ms);
     set(rows, i, LATER, if margin.later { 1 } else { 0 });
 }
@@ -222,10 +248,13 @@ fn say_escaped(word: u16) {
     }
 }
 
+// The same of what is kept; an empty face as `-`.
 fn say_kept(word: u64) {
-    if word < 65536 {
+    if word < EMPTY {
         say_escaped(word as u16);
+        return;
     }
+    say(b"-");
 }
 
 // A bar from x to its right end.
@@ -408,10 +437,6 @@ fn print_commit(rows: &[u64], i: u64, span: Span) {
     if word != 0 {
         print_both(x, word, other);
         print_decision(rows, i, x, span);
-        return;
-    }
-    if other != 0 {
-        print_both(x, word, other);
     }
 }
 
@@ -444,7 +469,7 @@ text{font-family:sans-serif;font-size:13px}.line{font-size:20px;text-anchor:midd
 .gap{stroke:#b00;stroke-width:3}.letter{fill:#8ab4e8}.thumb{fill:#f0b37e}.due{stroke:#333;stroke-width:2}.axis{stroke:#999}
 </style>
 <rect width=\"1200\" height=\"280\" fill=\"#fff\"/>
-<line class=\"axis\" x1=\"84\" y1=\"26\" x2=\"1170\" y2=\"26\"/>
+<line class=\"axis\" x1=\"84\" y1=\"26\" x2=\"1140\" y2=\"26\"/>
 <text class=\"small\" x=\"4\" y=\"49\">row D</text>
 <text class=\"small\" x=\"4\" y=\"75\">row C</text>
 <text class=\"small\" x=\"4\" y=\"101\">row B</text>
