@@ -131,7 +131,8 @@ fn number_of(resting: Resting) -> u8 {
     }
 }
 
-// Whether an event that commits nothing left a state as it was: no such event leads to another of the same name.
+// Whether a decision that commits nothing leaves a state as it was. Where another stamp decides otherwise, none leads to another state of
+// the same name.
 pub fn stays(resting: Resting, after: Resting) -> bool {
     number_of(resting) == number_of(after)
 }
