@@ -1,7 +1,7 @@
 //! What `explain` prints of a log, by the model: every row's stamp, event, state, deadline
 //! and screen; its sentence; and what the same event would have done sooner or later, found
-//! by trying shift after shift from the machine as it was when its state began. Nothing here
-//! knows where a rule turns.
+//! by trying shift after shift from the machine as it was when more than its last stamp
+//! changed: no event comes before that. Nothing here knows where a rule turns.
 
 use crate::live::{Flat, Wrong};
 use crate::log::{event, read_record, split, text as word_text, word, Before, TAG_EVENT};
@@ -24,6 +24,8 @@ pub enum ExplainSlip {
     SinceTheLast,
     /// Sooner only up to the last event.
     SoonerToTheLast,
+    /// Sooner up to where the state began, whatever changed since.
+    SoonerToTheState,
     /// What is to spare is the shift that decides otherwise.
     SpareIsSooner,
     /// Later is a millisecond more.
@@ -50,13 +52,20 @@ pub enum ExplainSlip {
     FirstAtStake,
     /// What is the same sooner and later is said twice.
     SaidTwice,
+    /// A release that leaves a character open is no close call.
+    EarlyUncounted,
+    /// A press that joins another is no close call.
+    JoinedUncounted,
+    /// What led to an open release is not told with its character.
+    LedUntold,
 }
 
-pub const EXPLAIN_SLIPS: [(&str, ExplainSlip); 17] = [
+pub const EXPLAIN_SLIPS: [(&str, ExplainSlip); 21] = [
     ("due-before", ExplainSlip::DueBefore),
     ("late-untold", ExplainSlip::LateUntold),
     ("since-the-last", ExplainSlip::SinceTheLast),
     ("sooner-to-the-last", ExplainSlip::SoonerToTheLast),
+    ("sooner-to-the-state", ExplainSlip::SoonerToTheState),
     ("spare-is-sooner", ExplainSlip::SpareIsSooner),
     ("one-more", ExplainSlip::OneMore),
     ("stamps-regarded", ExplainSlip::StampsRegarded),
@@ -70,6 +79,9 @@ pub const EXPLAIN_SLIPS: [(&str, ExplainSlip); 17] = [
     ("open-uncounted", ExplainSlip::OpenUncounted),
     ("first-at-stake", ExplainSlip::FirstAtStake),
     ("said-twice", ExplainSlip::SaidTwice),
+    ("early-uncounted", ExplainSlip::EarlyUncounted),
+    ("joined-uncounted", ExplainSlip::JoinedUncounted),
+    ("led-untold", ExplainSlip::LedUntold),
 ];
 
 /// A wrong rule of the machine or of what is made here, if any.
@@ -104,15 +116,18 @@ pub struct Explained {
     pub kinds: Vec<&'static str>,
 }
 
-/// An accepted event: whether it is a repeat of a held key, when the state before it began,
-/// what it committed (an empty face as 0), how close that was, and the deadline after it.
+/// An accepted event: whether it is a repeat of a held key, from when to when the time lasted
+/// that decided, what it committed (an empty face as 0), how close that was, whether it left
+/// open what a release means, and the deadline after it.
 #[derive(Clone)]
 pub struct Seen {
     pub event: Event,
     pub repeat: bool,
     pub began: Option<u64>,
+    pub until: u64,
     pub words: Vec<u16>,
     pub margin: Option<Margin>,
+    pub open: bool,
     pub due: Option<u64>,
 }
 
@@ -171,12 +186,16 @@ struct Whole {
     reasons: Vec<String>,
     tried: Vec<Tried>,
     kinds: Vec<&'static str>,
+    /// When more than the last stamp changed.
+    since: u64,
+    /// What led to the state, as `--why` tells it.
+    led: String,
 }
 
-/// A decision that was close.
+/// A decision that was close: the number of its character, if it committed one.
 struct Call {
     margin: Margin,
-    number: u64,
+    number: Option<u64>,
     word: u16,
     stamp: u64,
 }
@@ -194,6 +213,8 @@ impl Whole {
             reasons: vec![],
             tried: vec![],
             kinds: vec![],
+            since: 0,
+            led: String::new(),
         }
     }
 
@@ -205,18 +226,29 @@ impl Whole {
                 self.text += &format!("{front}refused {number}: {}\n", meaning(number));
             }
             Ok(step) => {
-                let case = Case { slips: self.slips, lent, machine, event, step: &step };
+                let case = Case { slips: self.slips, lent, machine, since: self.since, event, step: &step };
                 let shifts = case.shifts(printed);
                 self.count(&case, &shifts);
                 self.seen.push(case.seen(&shifts));
                 self.line.extend(case.words(&step.items).iter().filter(|word| **word != 0));
                 let sentence = case.sentence(&shifts);
+                let led = match machine.resting {
+                    S6 { .. } | S8 { .. } if !self.slips.own(ExplainSlip::LedUntold) => &self.led,
+                    _ => "",
+                };
                 for _ in &step.items {
                     let number = self.reasons.len() + 1;
-                    self.reasons.push(format!("character {number}, at {}: {sentence}\n", event.stamp));
+                    let reason = format!("{led}character {number}, at {}: {sentence}\n", event.stamp);
+                    self.reasons.push(reason);
                 }
                 self.text += &format!("{front}{}{sentence}\n", case.columns(&self.line));
                 self.try_all(&case, &shifts);
+                if !case.same_state() {
+                    self.led = format!("at {}: {sentence}\n", event.stamp);
+                }
+                if (Machine { last: event.stamp, ..*machine }) != step.machine || !step.items.is_empty() {
+                    self.since = event.stamp;
+                }
             }
         }
     }
@@ -225,8 +257,12 @@ impl Whole {
         self.events += 1;
         let words = case.words(&case.step.items);
         if let Some((margin, place)) = case.margin(shifts) {
-            let (number, stamp) = (self.counts[0] + 1 + place as u64, case.event.stamp);
-            self.calls.push(Call { margin, number, word: words[place], stamp });
+            let stamp = case.event.stamp;
+            let (number, word) = match words.get(place) {
+                Some(word) => (Some(self.counts[0] + 1 + place as u64), *word),
+                None => (None, case.words(&case.items_at(margin.from(stamp)))[0]),
+            };
+            self.calls.push(Call { margin, number, word, stamp });
         }
         for item in &case.step.items {
             let empty = sign(item).is_none() && self.slips.own(ExplainSlip::EmptyUncounted);
@@ -278,7 +314,11 @@ impl Whole {
         }
         for Call { margin, number, word, stamp } in self.calls.iter().take(most) {
             let word = shown_word(*word);
-            self.text += &format!("  {}: character {number}, {word}, at {stamp}\n", margin.text());
+            let stake = match number {
+                Some(number) => format!("character {number}, {word}"),
+                None => format!("{word} not yet"),
+            };
+            self.text += &format!("  {}: {stake}, at {stamp}\n", margin.text());
         }
         Explained {
             text: self.text,
@@ -303,6 +343,15 @@ pub struct Margin {
 }
 
 impl Margin {
+    /// The other stamp.
+    fn from(self, stamp: u64) -> u64 {
+        if self.later {
+            stamp + self.ms
+        } else {
+            stamp - self.ms
+        }
+    }
+
     pub fn text(self) -> String {
         format!("{} ms {}", self.ms, if self.later { "later" } else { "sooner" })
     }
@@ -315,16 +364,28 @@ fn counted(n: u64, name: &str) -> String {
     format!("{n} {name}{}", if n == 1 { "" } else { "s" })
 }
 
-/// An event as a row has it. One that is not allowed is named by its kind too.
-fn name(Event { kind, key, .. }: Event) -> String {
+/// An event as a row has it, in notation; what has no name there by its numbers.
+fn name(event: Event) -> String {
+    let Event { kind, key, .. } = event;
     let side = if key == 0 { "L" } else { "R" };
     match kind {
+        _ if !has_name(event) => format!("kind {kind} key {key}"),
         1 => format!("{key}"),
         2 => format!("{key} up"),
         3 => side.to_string(),
         4 => format!("{side} up"),
         5 => "fn".to_string(),
         _ => "tick".to_string(),
+    }
+}
+
+/// Whether there is such a key, thumb or none, if it is a key's then any.
+fn has_name(Event { kind, key, .. }: Event) -> bool {
+    match kind {
+        1 | 2 => true,
+        3 | 4 => key <= 1,
+        5 | 6 => key == 0,
+        _ => false,
     }
 }
 
@@ -427,6 +488,8 @@ struct Case<'a> {
     slips: Slips,
     lent: &'a Lent,
     machine: &'a Machine,
+    /// When more than the machine's last stamp changed.
+    since: u64,
     event: Event,
     step: &'a Step,
 }
@@ -437,6 +500,8 @@ struct Shifts {
     sooner: Option<u64>,
     /// Later, but above the largest stamp: such an event is refused.
     never: Option<u64>,
+    /// Sooner, however long ago the machine changed.
+    ever: Option<u64>,
 }
 
 /// What an event decides: the items and the state after it.
@@ -466,17 +531,23 @@ impl Case<'_> {
         self.due(self.machine).is_some_and(|due| due <= self.event.stamp)
     }
 
-    /// The machine that a shifted event finds, as it was when its state began.
+    /// The machine that a shifted event finds, as it was when more than its last stamp changed.
     fn found(&self) -> Machine {
-        match self.slips.own(ExplainSlip::SoonerToTheLast) {
-            true => *self.machine,
-            false => begun(self.machine),
+        match self.slips.own {
+            Some(ExplainSlip::SoonerToTheLast) => *self.machine,
+            Some(ExplainSlip::SoonerToTheState) => begun(self.machine),
+            _ => Machine { last: self.since, ..*self.machine },
         }
+    }
+
+    /// Whether the state is the same after the event.
+    fn same_state(&self) -> bool {
+        state(&self.machine.resting) == state(&self.step.machine.resting)
     }
 
     fn flat(&self) -> Flat {
         let (t, j, l, solo) = self.machine.settings.numbers();
-        Flat::of((t, j, l, solo), &begun(self.machine))
+        Flat::of((t, j, l, solo), &self.found())
     }
 
     fn items_at(&self, stamp: u64) -> Vec<Item> {
@@ -493,7 +564,11 @@ impl Case<'_> {
     }
 
     fn decided(&self, stamp: u64) -> Option<Decision> {
-        let (back, machine) = (self.back(), self.found());
+        self.decided_from(self.found(), stamp)
+    }
+
+    fn decided_from(&self, machine: Machine, stamp: u64) -> Option<Decision> {
+        let back = self.back();
         let resting = restamped(machine.resting, |at| at - back);
         let machine = Machine { resting, last: machine.last - back, ..machine };
         let event = Event { stamp: stamp - back, ..self.event };
@@ -509,7 +584,7 @@ impl Case<'_> {
 
     fn shifts(&self, printed: &str) -> Shifts {
         let stamp = self.event.stamp;
-        let first = self.found().last;
+        let (found, begun) = (self.found(), begun(self.machine));
         let due = self.due(self.machine).unwrap_or(0);
         let near = (due.saturating_sub(stamp) + BEHIND).min(NEAR);
         let told = |words: &[&str]| words.iter().find_map(|word| number_before(printed, word));
@@ -518,34 +593,37 @@ impl Case<'_> {
         let rests = self.machine.resting != S1;
         let more = u64::from(self.slips.own(ExplainSlip::OneMore));
         let most = (LARGEST_STAMP - (stamp - self.back())).min(WAITS);
-        let found = match rests {
-            true => self.first_other(most, near, later, |n| stamp + n).map(|n| n + more),
+        let turned = match rests {
+            true => self.first_other(found, most, near, later, |n| stamp + n).map(|n| n + more),
             // Nothing is compared with anything.
             false => None,
         };
-        let (later, never) = match found {
-            Some(n) if stamp + n > LARGEST_STAMP => (None, found),
-            _ => (found, None),
+        let (later, never) = match turned {
+            Some(n) if stamp + n > LARGEST_STAMP => (None, turned),
+            _ => (turned, None),
         };
-        // What began the state can't come after the event.
-        let sooner = match rests {
-            true => self.first_other(stamp - first.min(stamp), NEAR, sooner, |n| stamp - n),
+        let back_to = |machine: Machine| match rests {
+            true => {
+                let most = stamp - machine.last.min(stamp);
+                self.first_other(machine, most, NEAR, sooner, |n| stamp - n)
+            }
             false => None,
         };
-        Shifts { later, sooner, never }
+        Shifts { later, sooner: back_to(found), never, ever: back_to(begun) }
     }
 
     /// The first shift up to a limit that decides otherwise: all are tried up to `near`, and
     /// behind them a few; the one told, or one more, first.
     fn first_other(
         &self,
+        machine: Machine,
         limit: u64,
         near: u64,
         told: Option<u64>,
         at: impl Fn(u64) -> u64,
     ) -> Option<u64> {
-        let here = self.decided(self.event.stamp);
-        let other = |n: &u64| self.decided(at(*n)) != here;
+        let here = self.decided_from(machine, self.event.stamp);
+        let other = |n: &u64| self.decided_from(machine, at(*n)) != here;
         let near = near.min(limit);
         if let Some(n) = (1..=near).find(other) {
             return Some(n);
@@ -564,8 +642,9 @@ impl Case<'_> {
         }
     }
 
-    /// How close the decision of an event that committed something was: the fewest
-    /// milliseconds at which one of its items is not committed, and the place of that item.
+    /// How close the decision of an event was: the fewest milliseconds at which one of its
+    /// items is not committed, and the place of that item; or at which something is, if it
+    /// committed nothing and led to another state.
     fn margin(&self, shifts: &Shifts) -> Option<(Margin, usize)> {
         let stamp = self.event.stamp;
         let later = shifts.later.and_then(|ms| Some((Margin { ms, later: true }, self.turned(stamp + ms)?)));
@@ -581,12 +660,25 @@ impl Case<'_> {
     /// nothing there and leaves all as it was.
     fn turned(&self, at: u64) -> Option<usize> {
         let (own, others) = (&self.step.items, self.items_at(at));
+        if own.is_empty() {
+            let untold = match self.leaves_open() {
+                true => ExplainSlip::EarlyUncounted,
+                false => ExplainSlip::JoinedUncounted,
+            };
+            let counts = !self.same_state() && !others.is_empty() && !self.slips.own(untold);
+            return counts.then_some(0);
+        }
         if others.is_empty() && (self.slips.own(ExplainSlip::OpenUncounted) || self.unchanged_at(at)) {
             return None;
         }
         let first_only = self.slips.own(ExplainSlip::FirstAtStake);
         let most = if first_only { own.len().min(1) } else { own.len() };
         (0..most).find(|place| others.get(*place) != Some(&own[*place]))
+    }
+
+    /// Whether the first of two was let go, and what that means is still open.
+    fn leaves_open(&self) -> bool {
+        matches!(self.step.machine.resting, S6 { .. } | S8 { .. })
     }
 
     /// Whether the event at another stamp leaves what rested as it was, stamps apart.
@@ -738,7 +830,7 @@ impl Case<'_> {
             }
         };
         let items = &self.step.items;
-        let outcome = match items.is_empty() && !self.overlap() {
+        let outcome = match items.is_empty() {
             true => String::new(),
             false => format!(": {}", self.items(items)),
         };
@@ -806,7 +898,7 @@ impl Case<'_> {
     fn needed(&self, shifts: &Shifts) -> String {
         let start = began(&self.machine.resting).map_or(0, |(start, _)| start);
         let stamp = self.event.stamp;
-        let enough = match (shifts.later.or(shifts.never), shifts.sooner) {
+        let enough = match (shifts.later.or(shifts.never), shifts.ever) {
             (Some(later), _) => Some(stamp + later),
             (_, Some(sooner)) => Some(stamp - sooner + 1),
             _ => None,
@@ -848,7 +940,12 @@ impl Case<'_> {
             [] => String::new(),
             items => format!(", not {}", self.items(items)),
         };
-        let later = shifts.later.map(|n| format!("{}; {n} ms too early", not(stamp + n)));
+        let wanted = |at: u64| match (&self.items_at(at)[..], self.step.items.is_empty()) {
+            ([], true) => ": nothing yet".to_string(),
+            (items, true) => format!(": {} not yet", self.items(items)),
+            (_, false) => not(at),
+        };
+        let later = shifts.later.map(|n| format!("{}; {n} ms too early", wanted(stamp + n)));
         let sooner = shifts.sooner.map(|n| {
             let spare = n - u64::from(!self.slips.own(ExplainSlip::SpareIsSooner));
             format!("{}; {spare} ms to spare", not(stamp - n))
@@ -892,10 +989,21 @@ impl Case<'_> {
         Seen {
             event: self.event,
             repeat: self.event.kind == 1 && self.held().has(self.event.key),
-            began: began(&self.machine.resting).map(|(start, _)| start),
+            began: self.measured_from(),
+            until: self.due(self.machine).unwrap_or(self.event.stamp).min(self.event.stamp),
             words: self.words(&self.step.items),
             margin: self.margin(shifts).map(|(margin, _)| margin),
+            open: self.leaves_open(),
             due: self.due(&self.step.machine),
+        }
+    }
+
+    /// Where the time begins that decides: in S8 with the second key, where the event is in
+    /// time.
+    fn measured_from(&self) -> Option<u64> {
+        match self.machine.resting {
+            S8 { k, .. } if !self.is_late() => Some(k),
+            _ => began(&self.machine.resting).map(|(start, _)| start),
         }
     }
 

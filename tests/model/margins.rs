@@ -54,14 +54,14 @@ pub fn text(slip: Option<MarginsSlip>, lent: &Lent, settings: Option<Numbers>, s
     let trials: String =
         settings.map_or(String::new(), |settings| trials(slip, lent, settings, &events));
     format!(
-        "decisions that committed something, by how much sooner or later would have decided otherwise:\n\
+        "decisions, by how much sooner or later would have decided otherwise:\n\
          {}presses that another setting would have committed otherwise:\n{trials}",
         bars(slip, seen)
     )
 }
 
 fn bars(slip: Option<MarginsSlip>, seen: &[Seen]) -> String {
-    let decisions = seen.iter().filter(|seen| !seen.words.is_empty());
+    let decisions = seen.iter().filter(|seen| !seen.words.is_empty() || seen.margin.is_some());
     let margins: Vec<Option<u64>> =
         decisions.map(|seen| seen.margin.map(|margin| margin.ms)).collect();
     let more = u64::from(slip == Some(MarginsSlip::BarsShifted));

@@ -33,6 +33,10 @@ pub enum PictureSlip {
     FirstOnly,
     /// An empty face is not shown.
     EmptyUnshown,
+    /// A release that leaves open what it means has no margin.
+    OpenUndrawn,
+    /// The time that decided ends with the event, also where it was late.
+    GapToTheEvent,
     /// Sooner for later.
     MarginTurned,
     /// A millisecond more.
@@ -43,7 +47,7 @@ pub enum PictureSlip {
     GapEverywhere,
 }
 
-pub const PICTURE_SLIPS: [(&str, PictureSlip); 15] = [
+pub const PICTURE_SLIPS: [(&str, PictureSlip); 17] = [
     ("bar-to-the-next", PictureSlip::BarToTheNext),
     ("release-missed", PictureSlip::ReleaseMissed),
     ("any-release", PictureSlip::AnyRelease),
@@ -55,6 +59,8 @@ pub const PICTURE_SLIPS: [(&str, PictureSlip); 15] = [
     ("commit-at-press", PictureSlip::CommitAtPress),
     ("first-only", PictureSlip::FirstOnly),
     ("empty-unshown", PictureSlip::EmptyUnshown),
+    ("open-undrawn", PictureSlip::OpenUndrawn),
+    ("gap-to-the-event", PictureSlip::GapToTheEvent),
     ("margin-turned", PictureSlip::MarginTurned),
     ("margin-one-more", PictureSlip::MarginOneMore),
     ("gap-since-the-last", PictureSlip::GapSinceTheLast),
@@ -200,26 +206,29 @@ impl Drawing<'_> {
 
     /// What an event committed, what decided and how close it was.
     fn committed(&self, place: usize) -> Vec<Shape> {
-        let Seen { event, began, ref words, margin, .. } = self.seen[place];
+        let Seen { event, began, until, ref words, margin, open, .. } = self.seen[place];
         let x = self.across(event.stamp);
         let most = if self.is(PictureSlip::FirstOnly) { 1 } else { 2 };
         let signs: String = words.iter().take(most).map(|word| sign(*word)).collect();
-        if words.is_empty() || (self.is(PictureSlip::EmptyUnshown) && words[..] == [0]) {
+        let open = open && !self.is(PictureSlip::OpenUndrawn);
+        if (words.is_empty() && !open) || (self.is(PictureSlip::EmptyUnshown) && words[..] == [0]) {
             return vec![];
         }
         let at = match began {
             Some(began) if self.is(PictureSlip::CommitAtPress) => self.across(began),
             _ => x,
         };
-        let mut shapes = vec![shape("committed", "committed", (at, at), signs)];
+        let sign = (!words.is_empty()).then(|| shape("committed", "committed", (at, at), signs));
+        let mut shapes: Vec<Shape> = sign.into_iter().collect();
         shapes.extend(margin.map(|margin| shape("margin", "margin", (x, x), self.margin(margin))));
+        let until = if self.is(PictureSlip::GapToTheEvent) { event.stamp } else { until };
         let since = match self.is(PictureSlip::GapSinceTheLast) {
             true => place.checked_sub(1).map(|before| self.seen[before].event.stamp),
             false => began,
         };
         let close = margin.is_some() || self.is(PictureSlip::GapEverywhere);
-        let since = since.filter(|since| close && *since < event.stamp);
-        shapes.extend(since.into_iter().flat_map(|since| self.gap(since, event.stamp)));
+        let since = since.filter(|since| close && *since < until);
+        shapes.extend(since.into_iter().flat_map(|since| self.gap(since, until)));
         shapes
     }
 

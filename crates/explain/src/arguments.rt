@@ -337,12 +337,21 @@ fn usual() -> Reading {
     }
 }
 
+// A range that ends before it begins is none.
+fn of_range(options: Options) -> Asked {
+    let range = options.range;
+    if range.to < range.from {
+        return Asked::Unclear;
+    }
+    Asked::Run(options)
+}
+
 // What all arguments ask for: an option may still lack its number.
 fn understood(reading: Reading) -> Asked {
     let options = reading.options;
     let expected = reading.expected;
     match expected {
-        Expected::Any => Asked::Run(options),
+        Expected::Any => of_range(options),
         Expected::Help => Asked::Help,
         _ => Asked::Unclear,
     }

@@ -6,13 +6,15 @@ pub fn print_usage(fd: i32) {
         fd,
         b"usage: explain [--lines A..B] [--from STAMP] [--to STAMP] [--why N | --svg | --margins] [--progress] [LOG]
 Prints, for each event of a log, what it did and why: the numbers that were compared, and how many
-milliseconds sooner or later would have decided otherwise. Without LOG, standard input is read.
+milliseconds sooner or later would have decided otherwise; below them what was committed in all, and the
+closest calls of the events shown. Without LOG, standard input is read.
   --lines A..B  events number A to B only, the first accepted one being 1
   --from STAMP  events from that stamp on
   --to STAMP    events up to that stamp
   --why N       the reason of committed character or mark number N only, the first one being 1
   --svg         a picture of at most 256 events instead: presses, deadlines, what was committed, and by what
-  --margins     how close the decisions were instead, and how many presses another T, J or L would have changed
+  --margins     how close the decisions were instead, and how many presses T 10 ms, or J or L 5 percent, less
+                or more would have changed
   --progress    a line on standard error for each MiB read, also where that is no terminal
 Example: explain --why 3 < examples/saikai.log
 ",

@@ -1,5 +1,6 @@
 // What the same event would have decided at another stamp, and so how close its decision was.
 use crate::summary::NONE;
+use crate::summary::NOT_JUDGED;
 use crate::summary::first_word;
 use crate::summary::second_word;
 use engine::Items;
@@ -21,11 +22,13 @@ pub enum Other {
     At(Stamp, Items, Resting),
 }
 
-// How many milliseconds would have turned a decision, whether later ones or sooner, and whether its second item is the first that turns.
+// How many milliseconds would have turned a decision, whether later ones or sooner, whether its second item is the first that turns, and
+// the first word of what would have been committed.
 pub struct Margin {
     pub ms: u64,
     pub later: bool,
     pub second: bool,
+    pub word: u16,
 }
 
 // Which item of a decision another one does not commit at its place.
@@ -35,16 +38,33 @@ enum Stake {
     Second,
 }
 
-// The machine as it was when its state began.
-fn begun(machine: Machine) -> Machine {
+// The machine as it was after the last event that changed it: no event comes before that one, and ticks since then don't matter.
+pub fn settled(machine: Machine, since: Stamp) -> Machine {
     let resting = machine.resting;
     let settings = machine.settings;
     Machine {
         settings: settings,
         resting: resting,
-        last: margins::began(resting),
+        last: since,
         held: machine.held,
     }
+}
+
+// Whether an event changed more than the last stamp.
+pub fn changes(before: Machine, items: Items, after: Machine) -> bool {
+    let resting = before.resting;
+    let next = after.resting;
+    if !is_none(items) {
+        return true;
+    }
+    if before.held != after.held {
+        return true;
+    }
+    if !stays(resting, next) {
+        return true;
+    }
+    // S3, another thumb.
+    !waits::at_or_before(margins::began(next), margins::began(resting))
 }
 
 fn decided_at(list: &[u32], times: Times, machine: Machine, event: Event, stamp: Stamp) -> Other {
@@ -52,20 +72,23 @@ fn decided_at(list: &[u32], times: Times, machine: Machine, event: Event, stamp:
     let answer = engine::step(
         list,
         times,
-        begun(machine),
+        machine,
         Event {
             kind: event.kind,
             key: key,
             stamp: stamp,
         },
     );
+    if answer.number != 0 {
+        return Other::None;
+    }
     let items = answer.items;
     let after = answer.machine;
     let resting = after.resting;
     Other::At(stamp, items, resting)
 }
 
-// The decision at a stamp, if there is one that an event can have.
+// The decision at a stamp, if there is one that the event can have at this machine.
 pub fn other_at(list: &[u32], times: Times, machine: Machine, event: Event, due: Due) -> Other {
     match due {
         Due::Never => Other::None,
@@ -194,36 +217,45 @@ pub fn between(a: Stamp, b: Stamp) -> u64 {
     lag(b, a).0
 }
 
-fn no_margin() -> Margin {
+// No decision that could have been close: a margin of so much.
+pub fn no_margin(ms: u64) -> Margin {
     Margin {
-        ms: NONE,
+        ms: ms,
         later: false,
         second: false,
+        word: 0,
     }
 }
 
-fn turned(stamp: Stamp, turn: Stamp, stake: Stake) -> Margin {
+fn turned(stamp: Stamp, turn: Stamp, stake: Stake, word: u16) -> Margin {
     let ms = between(stamp, turn);
     let later = waits::before(stamp, turn);
     match stake {
-        Stake::None => no_margin(),
+        Stake::None => no_margin(NONE),
         Stake::First => Margin {
             ms: ms,
             later: later,
             second: false,
+            word: word,
         },
         Stake::Second => Margin {
             ms: ms,
             later: later,
             second: true,
+            word: word,
         },
     }
 }
 
 fn away(resting: Resting, stamp: Stamp, own: Items, other: Other) -> Margin {
     match other {
-        Other::None => no_margin(),
-        Other::At(turn, items, after) => turned(stamp, turn, stake_at(resting, own, items, after)),
+        Other::None => no_margin(NONE),
+        Other::At(turn, items, after) => turned(
+            stamp,
+            turn,
+            stake_at(resting, own, items, after),
+            first_word(items),
+        ),
     }
 }
 
@@ -234,14 +266,8 @@ fn nearest(later: Margin, sooner: Margin) -> Margin {
     sooner
 }
 
-// How many milliseconds later or sooner would have turned the decision of an event that committed something.
-pub fn margin_of(
-    list: &[u32],
-    times: Times,
-    machine: Machine,
-    event: Event,
-    items: Items,
-) -> Margin {
+// How many milliseconds later or sooner would have turned the decision of an event.
+fn nearest_of(list: &[u32], times: Times, machine: Machine, event: Event, items: Items) -> Margin {
     let numbers = why::numbers_at(list, times, machine, event);
     let behind = numbers.later;
     let front = numbers.sooner;
@@ -253,4 +279,37 @@ pub fn margin_of(
         away(resting, stamp, items, later),
         away(resting, stamp, items, sooner),
     )
+}
+
+// The same of every event that decides something: it commits, or leads to another state where it might have committed.
+pub fn margin_of(
+    list: &[u32],
+    times: Times,
+    machine: Machine,
+    event: Event,
+    items: Items,
+    after: Machine,
+) -> Margin {
+    let resting = machine.resting;
+    let next = after.resting;
+    let margin = nearest_of(list, times, machine, event, items);
+    if !is_none(items) {
+        return margin;
+    }
+    if stays(resting, next) {
+        return no_margin(NOT_JUDGED);
+    }
+    if margin.ms < NONE {
+        return margin;
+    }
+    no_margin(NOT_JUDGED)
+}
+
+// Whether the first of two was let go, and what it means is still open.
+pub fn is_released(resting: Resting) -> bool {
+    match resting {
+        Resting::S6(_, _, _, _, _) => true,
+        Resting::S8(_, _, _, _, _) => true,
+        _ => false,
+    }
 }

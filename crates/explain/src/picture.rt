@@ -21,11 +21,11 @@ use rules::Resting;
 // So many events fit.
 pub const MOST: u64 = 256;
 
-// What is kept of each: 9 numbers.
-const FIELDS: u64 = 9;
+// What is kept of each: 10 numbers.
+const FIELDS: u64 = 10;
 
 // Room for all of them.
-pub const ROOM: usize = 2304;
+pub const ROOM: usize = 2560;
 
 const STAMP: u64 = 0;
 
@@ -50,6 +50,9 @@ const MARGIN: u64 = 7;
 
 // 1 for a margin later, 0 for one sooner.
 const LATER: u64 = 8;
+
+// Where the time that decided ends.
+const UNTIL: u64 = 9;
 
 // Where the first stamp stands, and the last.
 const LEFT: u64 = 84;
@@ -112,12 +115,39 @@ fn due_field(due: Due) -> u64 {
     }
 }
 
-fn began_field(resting: Resting, event: Event) -> u64 {
+// Where the time that decided begins: in S8 an event in time is measured from the second key on.
+fn began_field(resting: Resting, event: Event, late: bool) -> u64 {
     let stamp = event.stamp;
     match resting {
         Resting::S1 => stamp.0,
+        Resting::S8(_, _, _, k, r) => if late { r.0 } else { k.0 },
         _ => margins::began(resting).0,
     }
+}
+
+// Where it ends: with the deadline, if that came before the event.
+fn until_field(event: Event, late: bool, due: Due) -> u64 {
+    let stamp = event.stamp;
+    match due {
+        Due::Never => stamp.0,
+        Due::At(deadline) => if late { deadline.0 } else { stamp.0 },
+    }
+}
+
+fn keep_time(rows: &mut [u64], i: u64, resting: Resting, event: Event, late: bool, due: Due) {
+    set(rows, i, BEGAN, began_field(resting, event, late));
+    set(rows, i, UNTIL, until_field(event, late, due));
+}
+
+// How close a decision was, of those that are drawn: what was committed, and a release that left it open.
+fn drawn(margin: Margin, items: Items, after: Machine) -> Margin {
+    let next = after.resting;
+    if others::is_none(items) {
+        if !others::is_released(next) {
+            return others::no_margin(NONE);
+        }
+    }
+    margin
 }
 
 // An event's kind; a repeat is drawn as a tick, which is not drawn.
@@ -181,14 +211,12 @@ pub fn keep(
     after: Machine,
 ) {
     let resting = machine.resting;
+    let numbers = why::numbers_at(list, times, machine, event);
+    let due = numbers.due;
+    let margin = others::margin_of(list, times, machine, event, items, after);
     keep_event(rows, i, machine.held, event);
-    keep_items(
-        rows,
-        i,
-        items,
-        others::margin_of(list, times, machine, event, items),
-    );
-    set(rows, i, BEGAN, began_field(resting, event));
+    keep_items(rows, i, items, drawn(margin, items, after));
+    keep_time(rows, i, resting, event, numbers.late, due);
     set(
         rows,
         i,
@@ -417,14 +445,21 @@ fn print_deadline(rows: &[u64], i: u64, span: Span) {
 
 // The time that decided, and how many milliseconds would have turned the decision.
 fn print_decision(rows: &[u64], i: u64, x: u64, span: Span) {
-    let stamp = field(rows, i, STAMP);
+    let until = field(rows, i, UNTIL);
     let began = field(rows, i, BEGAN);
     let margin = field(rows, i, MARGIN);
     if margin < NONE {
         print_margin(x, margin, field(rows, i, LATER) == 1);
-        if began < stamp {
-            print_line(b"gap", across(span, began), ROW_GAP - 12, x, ROW_GAP - 12);
-            print_time(b"small middle", x, ROW_GAP + 4, stamp - began);
+        if began < until {
+            let right = across(span, until);
+            print_line(
+                b"gap",
+                across(span, began),
+                ROW_GAP - 12,
+                right,
+                ROW_GAP - 12,
+            );
+            print_time(b"small middle", right, ROW_GAP + 4, until - began);
         }
     }
 }
@@ -436,8 +471,8 @@ fn print_commit(rows: &[u64], i: u64, span: Span) {
     let x = across(span, field(rows, i, STAMP));
     if word != 0 {
         print_both(x, word, other);
-        print_decision(rows, i, x, span);
     }
+    print_decision(rows, i, x, span);
 }
 
 fn print_event(rows: &[u64], i: u64, count: u64, span: Span) {
@@ -466,7 +501,7 @@ fn print_head() {
 <style>
 text{font-family:sans-serif;font-size:13px}.line{font-size:20px;text-anchor:middle}.end{text-anchor:end}
 .small{font-size:12px;fill:#555}.middle{text-anchor:middle}.margin{font-size:12px;fill:#b00;text-anchor:middle}
-.gap{stroke:#b00;stroke-width:3}.letter{fill:#8ab4e8}.thumb{fill:#f0b37e}.due{stroke:#333;stroke-width:2}.axis{stroke:#999}
+.gap{stroke:#b00;stroke-width:3}.letter{fill:#8ab4e8;fill-opacity:.6;stroke:#357}.thumb{fill:#f0b37e;fill-opacity:.6;stroke:#753}.due{stroke:#333;stroke-width:2}.axis{stroke:#999}
 </style>
 <rect width=\"1200\" height=\"280\" fill=\"#fff\"/>
 <line class=\"axis\" x1=\"84\" y1=\"26\" x2=\"1140\" y2=\"26\"/>

@@ -162,3 +162,13 @@ pub fn print_why(
     sentences::say_sentence(list, times, machine, event, items);
     say(b"\n");
 }
+
+// The event that led to a state, where it committed nothing.
+pub fn print_led(list: &[u32], times: Times, machine: Machine, event: Event) {
+    let stamp = event.stamp;
+    say(b"at ");
+    words::say_number(stamp.0);
+    say(b": ");
+    sentences::say_sentence(list, times, machine, event, Items::None);
+    say(b"\n");
+}

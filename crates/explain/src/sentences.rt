@@ -382,12 +382,31 @@ fn say_not(items: Items) {
     say_items(items);
 }
 
+// What an overlap that committed nothing might have committed: `: が not yet`.
+fn say_not_yet(items: Items) {
+    say(b": ");
+    say_items(items);
+    if is_none(items) {
+        return;
+    }
+    say(b" not yet");
+}
+
+// What a longer overlap would have given.
+fn say_wanted(own: Items, items: Items) {
+    if is_none(own) {
+        say_not_yet(items);
+        return;
+    }
+    say_not(items);
+}
+
 // What is missing of an overlap: `, not が; 10 ms too early`.
-fn say_missing(stamp: Stamp, later: Other) {
+fn say_missing(stamp: Stamp, own: Items, later: Other) {
     match later {
         Other::None => {}
         Other::At(turn, items, _) => {
-            say_not(items);
+            say_wanted(own, items);
             say(b"; ");
             say_ms(lag(stamp, turn));
             say(b" too early");
@@ -522,7 +541,7 @@ fn say_otherwise(
     let later = others::other_at(list, times, machine, event, behind);
     let sooner = others::other_at(list, times, machine, event, front);
     if is_overlap(compared) {
-        say_missing(stamp, later);
+        say_missing(stamp, own, later);
         say_spare(stamp, sooner);
         return;
     }
@@ -537,16 +556,6 @@ fn say_committed(items: Items) {
     say_items(items);
 }
 
-// What an overlap gave, also where that is nothing yet.
-fn say_outcome(compared: Compared, items: Items) {
-    if is_overlap(compared) {
-        say(b": ");
-        say_items(items);
-        return;
-    }
-    say_committed(items);
-}
-
 // What was late, and then the event itself, at which nothing rests any more.
 fn say_after_late(machine: Machine, due: Due, event: Event, items: Items) {
     let resting = machine.resting;
@@ -559,11 +568,10 @@ fn say_after_late(machine: Machine, due: Due, event: Event, items: Items) {
 // The event in time.
 fn say_in_time(machine: Machine, numbers: Numbers, event: Event, items: Items) {
     let resting = machine.resting;
-    let compared = numbers.compared;
     say_what(machine.held, resting, event);
     say_when(resting, event);
     say_compared(resting, numbers);
-    say_outcome(compared, items);
+    say_committed(items);
 }
 
 fn say_tick(held: u32, event: Event) {

@@ -127,9 +127,11 @@ pub fn second_word(items: Items) -> u16 {
     }
 }
 
-// A decision that was close: its margin, later or sooner, and the number, stamp and word of its character.
+// A decision that was close: its margin, later or sooner, and the number, stamp and word of its character; of one that committed nothing,
+// number 0 and the word that it might have committed. Of equal margins the first in the log comes first.
 pub struct Call {
     pub margin: u64,
+    pub order: u64,
     pub later: bool,
     pub character: u64,
     pub stamp: u64,
@@ -140,6 +142,7 @@ pub struct Call {
 pub fn no_calls() -> [Call; CALLS] {
     [Call {
         margin: NONE,
+        order: 0,
         later: false,
         character: 0,
         stamp: 0,
@@ -147,10 +150,10 @@ pub fn no_calls() -> [Call; CALLS] {
     }; CALLS]
 }
 
-// Whether b comes before a: it is closer, or as close and committed earlier.
+// Whether b comes before a.
 fn precedes(b: Call, a: Call) -> bool {
     if b.margin == a.margin {
-        return b.character < a.character;
+        return b.order < a.order;
     }
     b.margin < a.margin
 }
@@ -197,15 +200,26 @@ pub fn say_side(later: bool) {
     say(b" ms sooner");
 }
 
+// The character; or what was not committed yet.
+fn say_at_stake(character: u64, word: u16) {
+    if character == 0 {
+        say(b": ");
+        say_word(word);
+        say(b" not yet");
+        return;
+    }
+    say(b": character ");
+    say_number(character);
+    say(b", ");
+    say_word(word);
+}
+
 fn print_call(call: Call) {
     if is_call(call) {
         say(b"  ");
         say_number(call.margin);
         say_side(call.later);
-        say(b": character ");
-        say_number(call.character);
-        say(b", ");
-        say_word(call.word);
+        say_at_stake(call.character, call.word);
         say(b", at ");
         say_number(call.stamp);
         say(b"\n");

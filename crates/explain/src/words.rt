@@ -186,10 +186,35 @@ fn put_thumb(out: &mut [u8], at: usize, key: Key, up: bool) -> usize {
     padded(behind, 1, 9)
 }
 
+// Whether an event has a name in the notation.
+fn has_name(kind: u8, key: Key) -> bool {
+    match kind {
+        1 => true,
+        2 => true,
+        3 => key.0 < 2,
+        4 => key.0 < 2,
+        5 => key.0 == 0,
+        6 => key.0 == 0,
+        _ => false,
+    }
+}
+
+// A record's kind and key as they stand there.
+fn put_nameless(out: &mut [u8], at: usize, kind: u8, key: Key) -> usize {
+    let before_kind = put_bytes(out, at, b"kind ");
+    let behind_kind = put_number(out, before_kind, kind as u64);
+    let before_key = put_bytes(out, behind_kind, b" key ");
+    let behind_key = put_number(out, before_key, key.0 as u64);
+    padded(behind_key, 9, 9)
+}
+
 // An event without its stamp, in nine columns: `21`, `21 up`, `R`, `R up`, `fn`, `tick`.
 pub fn put_event(out: &mut [u8], at: usize, event: Event) -> usize {
     let key = event.key;
     let kind = event.kind;
+    if !has_name(kind, key) {
+        return put_nameless(out, at, kind, key);
+    }
     match kind {
         1 => put_key(out, at, key, false),
         2 => put_key(out, at, key, true),

@@ -8,11 +8,11 @@ use Rattle.explain.proofs.walk_log.Statement.{statement}
 use Rattle.explain.proofs.walk_log.Tie as tie
 
 abbrev Inv-loop : tie.InvT-loop
-Inv-loop options fd buf₀ list₀ window₀ rows₀ course₀ n₀ buf list window rows course n =
+Inv-loop options fd label buf₀ list₀ window₀ rows₀ course₀ n₀ buf list window rows course n =
     (length buf ≡ length buf₀) × (length list ≡ length list₀) × (length window ≡ length window₀) × (length rows ≡ length rows₀)
 
 abbrev μ-loop : tie.MeasureT-loop
-μ-loop options fd buf₀ list₀ window₀ rows₀ course₀ n₀ buf list window rows course n = 1000000000001 - n
+μ-loop options fd label buf₀ list₀ window₀ rows₀ course₀ n₀ buf list window rows course n = 1000000000001 - n
 
 pub walk-log-spec : {M : Type 1} → statement M
 walk-log-spec =
