@@ -1,4 +1,5 @@
-// Reads a console's log from a file or standard input and prints, for each keyboard that it names, its line and what waits there or was refused.
+// Reads a console's log from a file or standard input and prints, for each keyboard that it names, its line and what waits there or was
+// refused.
 //
 // The log is read whole, into one buffer of 1,048,576 bytes. Of a longer one nothing is read: `refused 9 at 1048576`. Where the log
 // can't be opened, or read to its end, standard error says why, and nothing is printed. Where standard output can't be written, standard

@@ -501,7 +501,8 @@ fn print_head() {
 <style>
 text{font-family:sans-serif;font-size:13px}.line{font-size:20px;text-anchor:middle}.end{text-anchor:end}
 .small{font-size:12px;fill:#555}.middle{text-anchor:middle}.margin{font-size:12px;fill:#b00;text-anchor:middle}
-.gap{stroke:#b00;stroke-width:3}.letter{fill:#8ab4e8;fill-opacity:.6;stroke:#357}.thumb{fill:#f0b37e;fill-opacity:.6;stroke:#753}.due{stroke:#333;stroke-width:2}.axis{stroke:#999}
+.gap{stroke:#b00;stroke-width:3}.due{stroke:#333;stroke-width:2}.axis{stroke:#999}
+.letter{fill:#8ab4e8;fill-opacity:.6;stroke:#357}.thumb{fill:#f0b37e;fill-opacity:.6;stroke:#753}
 </style>
 <rect width=\"1200\" height=\"280\" fill=\"#fff\"/>
 <line class=\"axis\" x1=\"84\" y1=\"26\" x2=\"1140\" y2=\"26\"/>
