@@ -4,6 +4,8 @@
 // The log is read whole, into one buffer of 1,048,576 bytes. Of a longer one nothing is read: `refused 9 at 1048576`. Where the log
 // can't be opened, or read to its end, standard error says why, and nothing is printed. Where standard output can't be written, standard
 // error says why, and some of the text may have been written.
+#![tactic(auto)]
+
 mod messages;
 
 ghost use Rattle.std.specs.Prelude.{◌≤◌, ◌≡◌, length};

@@ -1,4 +1,6 @@
 // What the program `console` prints of a console's log, as text in a lent run. specs/Sheet.antt says what it is.
+#![tactic(auto)]
+
 ghost use Rattle.std.specs.Prelude.{◌+◌, ◌*◌, ◌≤◌, ◌<◌, ◌≡◌, length, get_or};
 ghost use Rattle.rules.specs.Sequences as sequences;
 ghost use Rattle.filled.specs.Filled.{Stored};

@@ -1,6 +1,8 @@
 // Whether a resting state is due, how far its deadline lies from a stamp, and whether a machine is well formed. key is M, a
 // character key pressed at m, second is K, one pressed at k, thumb is O, a thumb pressed at o, r is the release of the thumb in S6,
 // of M in S8. What is lent (9/12) comes first; every function answers for any list, accepted or not.
+#![tactic(auto)]
+
 ghost use Rattle.std.specs.Prelude.{◌≡◌};
 ghost use Rattle.rules.specs.Pairs.{alone};
 ghost use Rattle.rules.specs.States.{well_formed};

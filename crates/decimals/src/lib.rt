@@ -1,4 +1,6 @@
 // Decimal numbers.
+#![tactic(auto)]
+
 ghost use Rattle.std.specs.Prelude.{◌≡◌};
 ghost use Rattle.decimals.specs.Decimals.{is_digit, extended, parsed};
 

@@ -1,4 +1,6 @@
 // UTF-8 text as words, one for each character. Damaged bytes are refused with their position.
+#![tactic(auto)]
+
 mod sequence;
 
 ghost use Rattle.std.specs.Prelude.{◌≡◌, length};

@@ -3,6 +3,8 @@
 // Where a text has no log, or the arguments are no settings, nothing is written to standard output, and standard error says why.
 // So it is where the text can't be opened, or read to its end. Where standard output can't be written, standard error says why, and some
 // of the log may have been written.
+#![tactic(auto)]
+
 mod arguments;
 mod lines;
 mod messages;

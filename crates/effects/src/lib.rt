@@ -1,5 +1,7 @@
 // What a rule can do: commit nothing, a character, a mark, both, two characters or that of a pair, and leave a state. Key is a character
 // key, second another, thumb a thumb.
+#![tactic(auto)]
+
 ghost use Rattle.std.specs.Prelude.{◌≡◌, ◌++◌, eqb};
 ghost use Rattle.rules.specs.OneEvent.{◌leaving◌, nothing, mark, plain, chord, together, same_thumb};
 ghost use Rattle.rules.specs.declared.Resting.TheVariants.{S1};

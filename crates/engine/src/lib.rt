@@ -1,5 +1,7 @@
 // One event at a machine, with what is lent (9/12): whether it is refused, what it commits and sends, and the machine after it. A
 // machine is opened by `rules::Machine::open`; what else a caller asks of one is passed on from the crates below.
+#![tactic(auto)]
+
 mod by_state;
 mod holding;
 

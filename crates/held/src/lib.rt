@@ -1,5 +1,7 @@
 // The set of held character keys: a number of 32 bits, one bit a key. Every function answers for any set and any key: one that is
 // no character key is never held, and to hold or release it changes nothing.
+#![tactic(auto)]
+
 ghost use Rattle.std.specs.Prelude.{◌≡◌, ◌<◌, ◌^◌};
 ghost use Rattle.rules.specs.Numbers.{keys};
 ghost use Rattle.rules.specs.Held.{is_held, hold, release, how_many, held_formed};

@@ -1,5 +1,7 @@
 // What a program is given: bytes, of standard input or of a file that an argument names, one read at a time or to their end, into a lent
 // buffer; and what the arguments ask for. errno is never looked at here: it means something only after `Failed` and where `open` fails.
+#![tactic(auto)]
+
 ghost use Rattle.std.specs.Prelude.{length};
 ghost use Rattle.io.specs.Counts.{IsPrefixLen};
 ghost use Rattle.input.specs.Reads.{Taken, Within};

@@ -1,4 +1,6 @@
 // A keyboard that the console's C host drives itself. Its machine goes in and comes out as numbers, and nothing is kept here.
+#![tactic(auto)]
+
 ghost use Rattle.std.specs.Prelude.{◌≡◌};
 ghost use Rattle.rules.specs.States.{opening};
 ghost use Rattle.rules.specs.Items.{listed};

@@ -1,5 +1,7 @@
 // A row of keyboards that the console's C host drives itself. Their machines lie side by side as numbers in the host's own memory, and
 // are advanced there. What an event at such a row means is said in specs/Keyboards.antt.
+#![tactic(auto)]
+
 ghost use Rattle.std.specs.Prelude.{◌≡◌};
 ghost use Rattle.keyboard.specs.Keyboard.{event_of, lent_of, step_numbers};
 ghost use Rattle.keyboard_row.specs.Keyboards.{advanced_numbers, row_numbers, no_keyboard, row_step_numbers};

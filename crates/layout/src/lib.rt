@@ -1,4 +1,6 @@
 // The layout of document 01: the character on each face of the thirty-one keys, and the word of a committed item by it.
+#![tactic(auto)]
+
 ghost use Rattle.std.specs.Prelude.{◌≡◌};
 ghost use Rattle.rules.specs.Layout.{code_point};
 ghost use Rattle.rules.specs.ZeroDelay.{sign_unless_0, mark_word, sign_of};

@@ -1,4 +1,6 @@
 // Where a character stands on the layout.
+#![tactic(auto)]
+
 ghost use Rattle.std.specs.Prelude.{◌+◌, ◌<◌, ◌≡◌};
 ghost use Rattle.lookup.specs.Places.{place_of, found};
 ghost use Rattle.lookup.specs.Entries.{entry_of, place_at};

@@ -1,4 +1,6 @@
 // A machine as fixed-width numbers, for a host that is not written in Rattle. What each number says is in specs/Fields.antt.
+#![tactic(auto)]
+
 ghost use Rattle.std.specs.Prelude.{◌≡◌, ◌&&◌, eqb, ltb};
 ghost use Rattle.std.proofs.Math.Option.{none, some};
 ghost use Rattle.choice.specs.Choice.{if◌then◌else◌};

@@ -1,6 +1,8 @@
 // The numbers of a reason, in code: what an event compares, and from which stamps on it would be decided otherwise. key is M, a
 // character key pressed at m, second is K, one pressed at k, thumb is O, a thumb pressed at o, r is the release of the thumb in S6, of M
 // in S8; `at` is the event's stamp. Every function answers for any state, list and numbers.
+#![tactic(auto)]
+
 ghost use Rattle.std.specs.Prelude.{◌≡◌, ◌*◌, ◌/◌, min};
 ghost use Rattle.waits.specs.Capped.{lag_at_most};
 ghost use Rattle.rules.specs.States.{at};

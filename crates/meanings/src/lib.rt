@@ -1,4 +1,6 @@
 // What the numbers of a log's records mean, in words on standard error.
+#![tactic(auto)]
+
 use libc::STDERR_FILENO;
 
 pub fn print_meaning(number: u64) {

@@ -4,6 +4,8 @@
 // the records before the refused one; a comment in the last line, and standard error, say which record is refused and why. Of a log that
 // is longer nothing is written, and standard error says so. So it is where the log can't be opened, or read to its end. Where standard
 // output can't be written, standard error says why, and some of the text may have been written.
+#![tactic(auto)]
+
 mod messages;
 
 ghost use Rattle.std.specs.Prelude.{◌≤◌, ◌≡◌, length};

@@ -1,5 +1,6 @@
 // Keystrokes as text, as document 01 writes them. The types of a transcriber, who takes a text byte by byte; specs/ says what the
 // notation is, what is transcribed of a text, and that the notation of a log is transcribed to the log. There is no code here.
+#![tactic(auto)]
 
 // What was read last of an entry: nothing, or one of its numbers. Settings have T, J, L and solo; an event a key and a stamp, or a
 // stamp alone; a list T_s and N, then the two keys and the character of each pair.

@@ -1,4 +1,6 @@
 // A log notated: its keystrokes as text in a lent run. crates/notation says what the notation of a log is.
+#![tactic(auto)]
+
 mod log;
 mod numbers;
 mod records;

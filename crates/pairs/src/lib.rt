@@ -1,5 +1,7 @@
 // A lent list of pairs, T_s and N (9/12): whether they are accepted, and what is read off the list. Every function answers for any
 // list and any keys. A pair is one number; specs/Lent.antt says which.
+#![tactic(auto)]
+
 ghost use Rattle.std.specs.Prelude.{◌≡◌, leb, length};
 ghost use Rattle.rules.specs.Pairs.{pairs_most, names, is_of, pair_of, is_pair, pair_character, in_some_pair};
 ghost use Rattle.rules.specs.Pairs.{none_twice, is_pair_character, pair_good, each_good, lent_good};

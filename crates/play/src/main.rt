@@ -5,6 +5,8 @@
 // log can't be opened, or read to its end, standard error says why, and the line as far as it was printed stands, with no status below
 // it: what was read is not the log. Where standard output can't be written, standard error says why, and some of the text may have been
 // written.
+#![tactic(auto)]
+
 mod messages;
 
 ghost use Rattle.std.specs.Prelude.{ℕ, ◌≤◌, List, ◌≡◌, length};

@@ -1,5 +1,7 @@
 // What the program prints while a log arrives in pieces, as text in a lent run: a piece's words, and at the end what follows the line.
 // Another lent run is where the log's list of pairs lives.
+#![tactic(auto)]
+
 ghost use Rattle.std.specs.Prelude.{◌≤◌, ◌≡◌, length};
 ghost use Rattle.filled.specs.Filled.{Stored};
 ghost use Rattle.text.specs.Text as texts;

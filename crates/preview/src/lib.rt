@@ -1,4 +1,6 @@
 // Zero delay: what a step sends, from what was shown before it, what it commits and what is shown after it.
+#![tactic(auto)]
+
 ghost use Rattle.std.specs.Prelude.{◌≡◌, ◌++◌};
 ghost use Rattle.rules.specs.ZeroDelay.{sign_unless_0, character, signs, shown, sent};
 ghost use Rattle.rules.specs.Items.{listed};

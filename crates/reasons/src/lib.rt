@@ -1,1 +1,2 @@
 // Why an item was committed: definitions and laws alone.
+#![tactic(auto)]

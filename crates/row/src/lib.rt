@@ -1,5 +1,7 @@
 // Sixteen keyboards at one console: events that name their keyboard, at a lent row of machines that lie side by side. What an
 // event at a row means is said in specs/Row.antt.
+#![tactic(auto)]
+
 ghost use Rattle.std.specs.Prelude.{◌≡◌, []};
 ghost use Rattle.rules.specs.GivenBack.{step};
 ghost use Rattle.rules.specs.Distance.{asking};

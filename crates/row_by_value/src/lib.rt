@@ -1,5 +1,7 @@
 // A row of sixteen machines that a program holds by value: it is lent to `row::step_at` for one event and handed back. Who holds such a
 // row needs no proof of lending it.
+#![tactic(auto)]
+
 ghost use Rattle.std.specs.Prelude.{◌≡◌};
 ghost use Rattle.pairs.specs.Lent.{lent};
 ghost use Rattle.row.specs.Row.{step_at};

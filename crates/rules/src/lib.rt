@@ -1,5 +1,7 @@
 // The types of document 01, in the forms that it names, and the two functions that belong to them: are settings in range, and
 // open a fresh machine. What the types mean is said in specs/, one file for each section of document 01.
+#![tactic(auto)]
+
 ghost use Rattle.std.specs.Prelude.{◌≡◌};
 ghost use Rattle.rules.specs.Numbers.{in_range};
 ghost use Rattle.rules.specs.States.{opening, opened};

@@ -6,6 +6,8 @@
 // An event comes as its kind and key n, as they stand in a record: 1 character down, 2 character up, 3 thumb down, 4 thumb up, 5
 // function down, else a tick (`meant`). An enum of inputs would be taken apart a second time here, which costs the reader a jump for
 // each event.
+#![tactic(auto)]
+
 ghost use Rattle.std.specs.Prelude.{◌≡◌, ◌++◌};
 ghost use Rattle.choice.specs.Choice.{if◌then◌else◌};
 ghost use Rattle.rules.specs.States.{lag};

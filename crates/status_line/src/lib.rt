@@ -1,4 +1,6 @@
 // What the programs print below a line: `waiting N` or `refused N at OFFSET`, as text at a place of a lent run.
+#![tactic(auto)]
+
 ghost use Rattle.std.specs.Prelude.{◌+◌, ◌≤◌, ◌≡◌, length};
 ghost use Rattle.filled.specs.Filled.{Stored};
 ghost use Rattle.text.specs.Puts.{Puts};

@@ -1,5 +1,7 @@
 // Words of the log reader as text: code points in UTF-8, the marks as `<L>` and `<R>`. Every 16-bit word has a text: 0 is the
 // byte 0, and a surrogate takes the form of three bytes.
+#![tactic(auto)]
+
 ghost use Rattle.std.specs.Prelude.{◌+◌, ◌≤◌, ◌≡◌, [], ◌∷◌, leb, length};
 ghost use Rattle.text.specs.Utf8.{utf8};
 ghost use Rattle.text.specs.Text.{sign, text, Encodes};

@@ -1,5 +1,7 @@
 // The whole face for a C host, as one library: libtrabeculon.a. Each function is that of `host`, `keyboard` or `keyboard_row` under
 // the same name, with its contract.
+#![tactic(auto)]
+
 ghost use Rattle.std.specs.Prelude.{◌/◌, ◌≡◌, length};
 ghost use Rattle.rules.specs.Numbers.{settings_of};
 ghost use Rattle.rules.specs.States.{opening};

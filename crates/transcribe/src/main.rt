@@ -4,6 +4,8 @@
 // Where a text is no notation, or is longer, or its log is, nothing is written to standard output, and standard error says why. So it is
 // where the text can't be opened, or read to its end. Where standard output can't be written, standard error says why, and some of the log
 // may have been written.
+#![tactic(auto)]
+
 mod messages;
 
 ghost use Rattle.std.specs.Prelude.{◌≡◌, length};

@@ -1,4 +1,6 @@
 // Keystrokes as text, transcribed to a log: what the notation is, is said in crates/notation.
+#![tactic(auto)]
+
 mod measuring;
 mod places;
 mod signs;

@@ -4,6 +4,8 @@
 // Every function takes any numbers: a sum that would not fit stops at the largest number, a lag that is multiplied counts as
 // the largest stamp at most, and a stamp in a difference as the largest signed number at most. None of these bounds is met in
 // a machine that is well formed, at a stamp that it accepts.
+#![tactic(auto)]
+
 ghost use Rattle.std.specs.Prelude.{◌≡◌, ◌&&◌, ◌+◌, ◌-◌, ◌*◌, ◌/◌, ◌%◌, ◌≤◌, ◌<◌, min, max, ltb};
 ghost use Rattle.rules.specs.Numbers as Numbers;
 ghost use Rattle.rules.specs.Numbers.{largest_stamp, up};

@@ -1,5 +1,7 @@
 // The reason of what an event commits, of any machine and event: its numbers come from `margins`, its deadline from the distance that a
 // machine answers.
+#![tactic(auto)]
+
 ghost use Rattle.std.specs.Prelude.{◌≡◌};
 ghost use Rattle.pairs.specs.Lent.{lent};
 ghost use Rattle.rules.specs.OneEvent.{due_by};

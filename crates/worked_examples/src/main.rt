@@ -1,6 +1,8 @@
 // Runs the keystrokes of document 01 that are not among the proved ones, some with two letters as a chord (9/12) and some at a row of
 // keyboards (10/12), and prints what the engine answers: the number, the items that are committed, what is sent, and (but for the row)
 // how far the next deadline lies from the event's stamp. A backspace is written `<-`, a mark `<L>` or `<R>`, an empty face `-`.
+#![tactic(auto)]
+
 ghost use Rattle.std.specs.Prelude.{pos, ◌<ℤ◌};
 
 use engine::{Asked, Items, Sendings, Times};
