@@ -36,7 +36,7 @@ use Rattle.console_log.proofs.OwnLogs.{own_logs}
 use Rattle.console_log.proofs.EndedSeats.{ended_seats}
 use Rattle.console_text.specs.Sheet.{label, first_line, second_line, two_lines, lines_of, board_lines, refusal_line, console_lines}
 use Rattle.console_text.specs.Shows.{longest_log, word_room}
-use Rattle.console_text.specs.ShownFacts.{Never8, own_reading, OwnLines, OwnLines, ShownExamples}
+use Rattle.console_text.specs.ShownFacts.{Never8, own_reading, OwnLines, OwnLinesStatement, ShownExamples}
 
 pub never_8 : Never8
 never_8 l h = room_for_console word_room l (omega arith)
@@ -46,7 +46,7 @@ no_waiting : (k n w v at : ℕ) → n ≢ 0 → second_line k n w at ≡ second_
 unfolding second_line status
 no_waiting k n w v at h = rw (ne_eqb n 0 h)
 
-pub own_lines : OwnLines
+pub own_lines : OwnLinesStatement
 own_lines l k short below =
     record {
       not_named = λ h. ap (lines_of k (line_in k (read word_room l).words) (waiting_at (read word_room l) k)) (own.not_named.1 h);

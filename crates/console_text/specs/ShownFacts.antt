@@ -32,8 +32,8 @@ pub record OwnLines (l : List ℕ) (k : ℕ) : Type 0 where
   pub refused : (n at : ℕ) → stage_of (read word_room l) k ≡ Ended n at
       → board_lines (read word_room l) k ≡ first_line k (own_reading l k).words ++ second_line k n 0 at
 
-abbrev pub OwnLines : Type 0
-OwnLines = (l : List ℕ) (k : ℕ) → length l ≤ longest_log → k < 16 → OwnLines l k
+abbrev pub OwnLinesStatement : Type 0
+OwnLinesStatement = (l : List ℕ) (k : ℕ) → length l ≤ longest_log → k < 16 → OwnLines l k
 
 -- The text of two logs. さ is E3 81 95.
 pub record ShownExamples : Type 0 where

@@ -4,7 +4,7 @@ use Rattle.std.specs.Prelude.{ℕ, List, [], ◌∷◌, map, ◌≡◌}
 use Rattle.std.proofs.Math.Option.{some}
 use Rattle.rules.specs.Pairs.{Lent}
 use Rattle.rules.specs.States.{later}
-use Rattle.rules.specs.Sequences.{state, accepted-events}
+use Rattle.rules.specs.Sequences.{state, accepted_events}
 use Rattle.rules.specs.MovedClock.{moved_events, moved_state, Stays, AllStay}
 use Rattle.rules.specs.declared.Stamp.{Stamp}
 use Rattle.rules.specs.declared.Settings.{Settings}
@@ -29,7 +29,7 @@ pub record KeyboardMoved (g : Lent) (k : ℕ) (s : Settings) (es : List Event) (
   pub same_numbers : map besides_machine moved ≡ map besides_machine rs
   -- the numbers of a machine name it: the state that the events leave, and that state with its stamps moved
   pub names_state : named before ≡ some (state g s es)
-  pub names_moved : named after ≡ some (moved_state k (accepted-events g s es) (state g s es))
+  pub names_moved : named after ≡ some (moved_state k (accepted_events g s es) (state g s es))
   -- asked at a stamp that moves too: the same numbers
   pub same_distance : (now : Stamp) → Stays k now → distance_numbers g after (later now k) ≡ distance_numbers g before now
 

@@ -29,11 +29,11 @@ use Rattle.keyboard.proofs.DistanceNumbers.{asks, distance_numbers_facts, same_r
 use Rattle.row.specs.Row.{keyboard, RowAnswer}
 use Rattle.row.specs.RowFacts.{NoKeyboard, Found}
 use Rattle.row.proofs.Found.{set_same, set_other, set_as_is}
-use Rattle.row.proofs.Found as of-machines
+use Rattle.row.proofs.Found as of_machines
 use Rattle.row.proofs.RowFacts.{row_facts}
 use Rattle.keyboard_row.specs.Keyboards.{keyboard_numbers, RowNumbers, told_of, row_numbers, refused_told, refused_13, answered_at}
 use Rattle.keyboard_row.specs.Keyboards.{row_step_numbers, not_asked, row_distance_numbers}
-use Rattle.keyboard_row.specs.KeyboardsFacts.{FoundNumbers, RowStepFacts, RowDistanceFacts, NamedAt, AsMachines, AsMachines}
+use Rattle.keyboard_row.specs.KeyboardsFacts.{FoundNumbers, RowStepFacts, RowDistanceFacts, NamedAt, AsMachines, AsMachinesStatement}
 use Rattle.keyboard_row.specs.KeyboardsFacts.{machines_of, HasMachines}
 use Rattle.keyboard_row.proofs.Finding.{none_why, not_13, by_found, step_here, step_nowhere, distance_here, distance_nowhere}
 use Rattle.keyboard_row.proofs.Finding.{put_own}
@@ -46,7 +46,7 @@ alone x = record { not_above_16 = omega arith; stands = refl }
 
 machine_not_13 : (g : Lent) (x : Machine) (e : Event) → (step g x e).number ≢ 13
 machine_not_13 g x e n =
-    go ((row_facts g (x ∷ []) 0 e).gives_13.0 (ap (λ (a : RowAnswer). a.number) (of-machines.step_here (x ∷ []) 0 g e x (alone x)) ∙ n))
+    go ((row_facts g (x ∷ []) 0 e).gives_13.0 (ap (λ (a : RowAnswer). a.number) (of_machines.step_here (x ∷ []) 0 g e x (alone x)) ∙ n))
   where
     go : NoKeyboard 1 0 → ⊥
     go (inl h) = omega (arith, h)
@@ -185,11 +185,11 @@ some_one h = cc
 module _ (g : Lent) (row : List MachineNumbers) (machines : List Machine) (k : ℕ) (e : Event) (beside : NamedAt k row machines) where
   as_nowhere : keyboard_numbers row k ≡ none → AsMachines g row machines k e
   as_nowhere h =
-      let none-there : keyboard machines k ≡ none = of-machines.none_found machines k (rw beside.as_many (none_why row k h)) in
+      let none-there : keyboard machines k ≡ none = of_machines.none_found machines k (rw beside.as_many (none_why row k h)) in
       record {
-        told_is = rw (step_nowhere row k g e h, of-machines.step_nowhere machines k g e none-there);
-        asked_is = λ now. rw (distance_nowhere row k g now h, of-machines.asking_nowhere machines k g now none-there);
-        named_on = λ j at_j. rw (step_nowhere row k g e h, of-machines.step_nowhere machines k g e none-there) at_j;
+        told_is = rw (step_nowhere row k g e h, of_machines.step_nowhere machines k g e none-there);
+        asked_is = λ now. rw (distance_nowhere row k g now h, of_machines.asking_nowhere machines k g now none-there);
+        named_on = λ j at_j. rw (step_nowhere row k g e h, of_machines.step_nowhere machines k g e none-there) at_j;
       }
 
   as_here : (f : MachineNumbers) → FoundNumbers row k f → AsMachines g row machines k e
@@ -198,13 +198,13 @@ module _ (g : Lent) (row : List MachineNumbers) (machines : List Machine) (k : �
       let there : Found machines k x = record { not_above_16 = rw beside.as_many found.not_above_16; stands = stands } in
       let is_named : named f ≡ some x = beside.names f x found.stands stands in
       let told = step_here row k g e f found in
-      let answered = of-machines.step_here machines k g e x there in
+      let answered = of_machines.step_here machines k g e x there in
       record {
         told_is = rw (told, answered) (ap told_of (call_answers g f x e is_named));
         asked_is = λ now.
             distance_here row k g now f found
             ∙ asks g f x is_named now
-            ∙ ap asked_numbers (sym (of-machines.asking_here machines k g now x there));
+            ∙ ap asked_numbers (sym (of_machines.asking_here machines k g now x there));
         named_on = λ j at_j. rw (told, answered) (put_both j at_j x stands found is_named);
       }
     where
@@ -230,7 +230,7 @@ module _ (g : Lent) (row : List MachineNumbers) (machines : List Machine) (k : �
               (sym (set_other row k j (step_numbers g f e).machine (eqb-false j k other)) ∙ p)
               (sym (set_other machines k j (step g x e).machine (eqb-false j k other)) ∙ q)
 
-pub as_machines : AsMachines
+pub as_machines : AsMachinesStatement
 as_machines g row machines k e beside =
     by_found row k (as_nowhere g row machines k e beside) (as_here g row machines k e beside)
 

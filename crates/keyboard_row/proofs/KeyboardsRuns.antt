@@ -34,7 +34,7 @@ use Rattle.row.specs.RowRuns.{RowEvent, events_of}
 use Rattle.keyboard_row.specs.Keyboards.{RowNumbers, row_step_numbers}
 use Rattle.keyboard_row.specs.KeyboardsFacts.{FoundNumbers}
 use Rattle.keyboard_row.specs.KeyboardsRuns.{RowCalls, no_more, call, RowHandedOn, own_answer, answers_of, OwnCalls}
-use Rattle.keyboard_row.specs.KeyboardsRuns.{IsolatedNumbers, OpenedInRow, MovedInRow}
+use Rattle.keyboard_row.specs.KeyboardsRuns.{IsolatedNumbers, OpenedInRowStatement, MovedInRow}
 use Rattle.keyboard_row.proofs.Finding.{step_here, distance_here}
 use Rattle.keyboard_row.proofs.KeyboardsFacts.{row_step_facts}
 
@@ -139,7 +139,7 @@ run_of : (g : Lent) (k : ℕ) (s : Settings) (first : OpenAnswer) (xs : List Row
 run_of g k s first xs rs opened_as opened_well calls =
     record { opened_as = opened_as; opened_well = opened_well; calls = own_calls g k first.machine xs rs calls }
 
-pub opened_in_row : OpenedInRow
+pub opened_in_row : OpenedInRowStatement
 opened_in_row g k s first xs rs opened_as opened_well calls =
     let run = run_of g k s first xs rs opened_as opened_well calls in
     let zero : (opening s).number ≡ 0 = sym (ap (λ (a : OpenAnswer). a.number) opened_as) ∙ opened_well in

@@ -91,8 +91,8 @@ pub record AsMachines (g : Lent) (row : List MachineNumbers) (machines : List Ma
   pub asked_is : (now : Stamp) → row_distance_numbers g row k now ≡ asked_numbers (asking_at g machines k now)
   pub named_on : (j : ℕ) → NamedAt j row machines → NamedAt j (row_step_numbers g row k e).row (step_at g machines k e).row
 
-abbrev pub AsMachines : Type 0
-AsMachines =
+abbrev pub AsMachinesStatement : Type 0
+AsMachinesStatement =
     (g : Lent) (row : List MachineNumbers) (machines : List Machine) (k : ℕ) (e : Event) → NamedAt k row machines
     → AsMachines g row machines k e
 

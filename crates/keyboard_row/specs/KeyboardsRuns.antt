@@ -10,7 +10,7 @@ use Rattle.rules.specs.States.{later, fresh, opening}
 use Rattle.rules.specs.Refusals.{NotAllowed, AboveLargest}
 use Rattle.rules.specs.Distance.{asking}
 use Rattle.rules.specs.ZeroDelay.{shown}
-use Rattle.rules.specs.Sequences.{state, line, accepted-events}
+use Rattle.rules.specs.Sequences.{state, line, accepted_events}
 use Rattle.rules.specs.MovedClock.{moved_events, Stays, AllStay, last_stamp}
 use Rattle.rules.specs.Demand3.{Demand3}
 use Rattle.rules.specs.declared.Stamp.{Stamp}
@@ -118,10 +118,10 @@ pub record OpenedInRow (g : Lent) (k : ℕ) (s : Settings) (first : OpenAnswer) 
   pub own_last_stamp : lent_good g ≡ true → (row : List MachineNumbers) (e : Event)
       → FoundNumbers row k (last_numbers first.machine (answers_of k xs rs))
       → (row_step_numbers g row k e).told.number ≡ 5
-      ↔ ((¬ NotAllowed e) × (¬ AboveLargest e) × (e.stamp.0 < (last_stamp (accepted-events g s (events_of k xs))).0))
+      ↔ ((¬ NotAllowed e) × (¬ AboveLargest e) × (e.stamp.0 < (last_stamp (accepted_events g s (events_of k xs))).0))
 
-abbrev pub OpenedInRow : Type 0
-OpenedInRow =
+abbrev pub OpenedInRowStatement : Type 0
+OpenedInRowStatement =
     (g : Lent) (k : ℕ) (s : Settings) (first : OpenAnswer) (xs : List RowEvent) (rs : List RowNumbers)
     → first ≡ open_numbers (opening (settings_of s.t s.j s.l s.solo)) → first.number ≡ 0
     → RowCalls g k first.machine xs rs

@@ -11,7 +11,7 @@ use lib.Dec.{eqb, leb, ltb}
 use lib.ListN.{length, length-append}
 use Rattle.rules.specs.Numbers.{largest_stamp, in_range}
 use Rattle.rules.specs.Pairs.{Pair, Lent, lent_good, no_pairs}
-use Rattle.rules.specs.States.{fresh as fresh-machine, opening}
+use Rattle.rules.specs.States.{fresh as fresh_machine, opening}
 use Rattle.rules.specs.ZeroDelay.{signs}
 use Rattle.rules.specs.GivenBack.{step, step_with}
 use Rattle.rules.specs.Sequences.{items_in, waiting, after, along, state, items}
@@ -36,7 +36,7 @@ use Rattle.opinions.proofs.Back.{Knows, knows_fresh, number_is, knows_step}
 use Rattle.opinions.proofs.SameAsRules.{same_as_rules}
 use Rattle.log_opinions.specs.OfLog.{Found, ends, and_event, found_at_end, find, Opined, refused, on_told, on_found}
 use Rattle.log_opinions.specs.OfLog.{unless_pairs, behind, on_records, on_log, opined, answer_of}
-use Rattle.log_opinions.specs.SameAsReader.{as_read, BeginWithPairs, WithPairs, LendsPairs, SameAsReader}
+use Rattle.log_opinions.specs.SameAsReader.{as_read, BeginWithPairs, WithPairs, LendsPairs, SameAsReaderStatement}
 
 -- what reading leaves behind the words ws, at a machine m, beside what is found
 record Ends (g : Lent) (m : Machine) (ws : List ℕ) (f : Found) (y : Reading) : Type 0 where
@@ -192,11 +192,11 @@ module _ (room : ℕ) (cut : List ℕ) (t n : ℕ) (good : lent_good (record { p
         let same = same_as_rules t n good s range f.events in
         ap (opinion s) (sym (found_accepted cut [] at rs) ∙ same.same_events) ∙ same.same_told
 
-    answers : Ready d g (fresh-machine s) rs → length (on_found s f).words ≤ room
+    answers : Ready d g (fresh_machine s) rs → length (on_found s f).words ≤ room
         → as_read (reads room cut (at_desk d [] at) rs) ≡ on_found s f
     answers ready fit =
         let fits : length (signs (items g s f.events)) ≤ room = rw is_told at fit in
-        let e = finds room cut g good d (fresh-machine s) [] [] at rs (knows_fresh g s range) ready (omega arith) in
+        let e = finds room cut g good d (fresh_machine s) [] [] at rs (knows_fresh g s range) ready (omega arith) in
         (λ i. record { number = e.number i; words = e.words i; offset = e.offset i; waiting = e.waits i })
         ∙ ap (on_told f) (sym is_told)
 
@@ -230,7 +230,7 @@ module _ (r : List ℕ) (cut : List ℕ) (is-first : is_settings r ≡ true) (ra
   s = settings r
 
   abbrev m : Machine
-  m = fresh-machine s
+  m = fresh_machine s
 
   opens : (room : ℕ) → read_record room fresh r ≡ at_desk (opened m) [] (length r)
   unfolding read_record record_effect opening
@@ -391,21 +391,21 @@ lent_in y = pairs_of y.desk
 
 -- An event straight behind the settings: no pairs are lent from there on.
 module _ (room : ℕ) (cut : List ℕ) (m : Machine) (at : ℕ) (q : List ℕ) (rs : List (List ℕ)) where
-  abbrev at-opened : Reading
-  at-opened = at_desk (opened m) [] at
+  abbrev at_opened : Reading
+  at_opened = at_desk (opened m) [] at
 
-  none_by : (f : RecordEffect) → LeadsTo [] f → lent_in (reads room cut (by_effect room at-opened q f) rs) ≡ []
-  none_by (reader.refused n) h = ap lent_in (stopped room cut at-opened n rs)
+  none_by : (f : RecordEffect) → LeadsTo [] f → lent_in (reads room cut (by_effect room at_opened q f) rs) ≡ []
+  none_by (reader.refused n) h = ap lent_in (stopped room cut at_opened n rs)
   none_by (reader.accepted d ws) h =
       both_ways (λ (y : Reading). lent_in (reads room cut y rs) ≡ []) (leb (0 + length ws) room)
       (reads_lends room cut [] (at_desk d ws (at + length q)) rs h)
-      (ap lent_in (stopped room cut at-opened 8 rs))
+      (ap lent_in (stopped room cut at_opened 8 rs))
 
-  as_event : is_list q ≡ false → read_record room at-opened q ≡ by_effect room at-opened q (by_event no_pairs m q)
+  as_event : is_list q ≡ false → read_record room at_opened q ≡ by_effect room at_opened q (by_event no_pairs m q)
   unfolding read_record record_effect
   as_event e = rw e
 
-  none_lent : is_list q ≡ false → lent_in (reads room cut at-opened (q ∷ rs)) ≡ []
+  none_lent : is_list q ≡ false → lent_in (reads room cut at_opened (q ∷ rs)) ≡ []
   none_lent e =
       ap (λ (y : Reading). lent_in (reads room cut y rs)) (as_event e) ∙ none_by (by_event no_pairs m q) (event_lends no_pairs m q)
 
@@ -430,17 +430,17 @@ module _ (room : ℕ) (cut : List ℕ) where
       (ap lent_in (ap (λ (y : Reading). reads room cut y rs) e ∙ stopped room cut fresh n rs))
 
   module _ (r : List ℕ) (is-first : is_settings r ≡ true) (range : in_range (settings r) ≡ true) where
-    abbrev fresh-one : Machine
-    fresh-one = fresh-machine (settings r)
+    abbrev fresh_one : Machine
+    fresh_one = fresh_machine (settings r)
 
     abbrev begun : Reading
-    begun = at_desk (opened fresh-one) [] (length r)
+    begun = at_desk (opened fresh_one) [] (length r)
 
     begins : (rs : List (List ℕ)) → reads room cut fresh (r ∷ rs) ≡ reads room cut begun rs
     begins = behind_opened r cut is-first range room
 
     alone : lent_in (reads room cut begun []) ≡ []
-    alone = both_ways (λ (y : Reading). lent_in y ≡ []) (is_cut (opened fresh-one) cut) refl refl
+    alone = both_ways (λ (y : Reading). lent_in y ≡ []) (is_cut (opened fresh_one) cut) refl refl
 
     module _ (q : List ℕ) (rs : List (List ℕ)) where
       -- a list
@@ -456,7 +456,7 @@ module _ (room : ℕ) (cut : List ℕ) where
           is_lent : lent_in (reads room cut fresh (r ∷ (q ∷ rs))) ≡ (list q).pairs
           is_lent =
               ap lent_in (begins (q ∷ rs) ∙ ap (λ (y : Reading). reads room cut y rs) (lends r cut is-first range q rs l good room))
-              ∙ reads_lends room cut (list q).pairs (at_desk (running (list q) fresh-one) [] (length r + length q)) rs refl
+              ∙ reads_lends room cut (list q).pairs (at_desk (running (list q) fresh_one) [] (length r + length q)) rs refl
 
           by : (ps : List Pair) → (list q).pairs ≡ ps → Agree (r ∷ (q ∷ rs))
           by [] e = agree_on_none (r ∷ (q ∷ rs)) (λ p. p.4 e) (is_lent ∙ e)
@@ -470,7 +470,7 @@ module _ (room : ℕ) (cut : List ℕ) where
         either (is_list q)
         (λ l. either (lent_good (list q)) (agree_good q rs l) (agree_bad q rs l))
         (λ l. agree_on_none (r ∷ (q ∷ rs)) (λ p. true≢false (sym p.2 ∙ l))
-        (ap lent_in (begins (q ∷ rs)) ∙ none_lent room cut fresh-one (length r) q rs l))
+        (ap lent_in (begins (q ∷ rs)) ∙ none_lent room cut fresh_one (length r) q rs l))
 
   agree : (rs : List (List ℕ)) → Agree rs
   agree [] = agree_on_none [] (λ p. p) refl
@@ -555,7 +555,7 @@ words_length log = go (log_compared log)
     go (with_pairs _ q) =
         let none : length (on_log log).words ≡ 0 = ap (λ (o : Opined). length o.words) q in omega arith
 
-pub same_as_reader : SameAsReader
+pub same_as_reader : SameAsReaderStatement
 same_as_reader room log =
     record {
       with_pairs = with_pairs_lent room log;

@@ -46,5 +46,5 @@ pub record SameAsReader (room : ℕ) (log : List ℕ) : Type 0 where
   pub refused_8 : (opined room log).number ≡ 8 → opined room log ≡ refused 8 0
 
 -- the statement
-abbrev pub SameAsReader : Type 0
-SameAsReader = (room : ℕ) (log : List ℕ) → SameAsReader room log
+abbrev pub SameAsReaderStatement : Type 0
+SameAsReaderStatement = (room : ℕ) (log : List ℕ) → SameAsReader room log

@@ -87,8 +87,8 @@ module _ (g : Lent) (f : MachineNumbers) where
       rw (le-ltb f.thumb 2 (omega arith))))
 
   -- a character with a thumb
-  abbrev with-key : Bool → Bool
-  with-key stamps = ltb f.thumb 2 && (is_key (character f) && stamps)
+  abbrev with_key : Bool → Bool
+  with_key stamps = ltb f.thumb 2 && (is_key (character f) && stamps)
 
   -- K as its number or as what fits in a key, behind the test that it fits
   seconds : (t : Bool) (P : Key → Bool) {K : Key} → K ≡ second_at f
@@ -113,7 +113,7 @@ module _ (g : Lent) (f : MachineNumbers) where
 
   pub in_4 : there (as_S4 f)
       ≡ (no_second f && no_release f
-      && with-key (at_or_before f.m f.last && at_or_before f.o f.last && at_or_before f.m f.o))
+      && with_key (at_or_before f.m f.last && at_or_before f.o f.last && at_or_before f.m f.o))
   unfolding as_S4
   in_4 =
       if_given (no_second f && no_release f) (with_thumb f (λ O. S4 (character f) f.m O f.o))
@@ -121,7 +121,7 @@ module _ (g : Lent) (f : MachineNumbers) where
 
   pub in_5 : there (as_S5 f)
       ≡ (no_second f && no_release f
-      && with-key (at_or_before f.o f.last && at_or_before f.m f.last && at_or_before f.o f.m))
+      && with_key (at_or_before f.o f.last && at_or_before f.m f.last && at_or_before f.o f.m))
   unfolding as_S5
   in_5 =
       if_given (no_second f && no_release f) (with_thumb f (λ O. S5 O f.o (character f) f.m))
@@ -129,7 +129,7 @@ module _ (g : Lent) (f : MachineNumbers) where
 
   pub in_6 : there (as_S6 f)
       ≡ (no_second f
-      && with-key
+      && with_key
       (at_or_before f.o f.last && at_or_before f.m f.last && at_or_before f.r f.last
       && (at_or_before f.o f.m && at_or_before f.m f.r)))
   unfolding as_S6
@@ -141,25 +141,25 @@ module _ (g : Lent) (f : MachineNumbers) where
   abbrev two : Bool → Key → Bool
   two stamps K = is_key (character f) && is_key K && stamps && is_pair g.pairs (character f) K
 
-  abbrev stamps-7 : Bool
-  stamps-7 = at_or_before f.m f.last && at_or_before f.k f.last && at_or_before f.m f.k
+  abbrev stamps_7 : Bool
+  stamps_7 = at_or_before f.m f.last && at_or_before f.k f.last && at_or_before f.m f.k
 
-  pub in_7 : {K : Key} → K ≡ second_at f → there (as_S7 f) ≡ (no_thumb f && no_release f && second_fits f && two stamps-7 K)
+  pub in_7 : {K : Key} → K ≡ second_at f → there (as_S7 f) ≡ (no_thumb f && no_release f && second_fits f && two stamps_7 K)
   unfolding as_S7
   in_7 k =
       if_given (no_thumb f && no_release f && second_fits f) (some (S7 (character f) f.m (second_character f) f.k))
-      ∙ seconds (no_thumb f && no_release f) (two stamps-7) k
+      ∙ seconds (no_thumb f && no_release f) (two stamps_7) k
 
-  abbrev stamps-8 : Bool
-  stamps-8 =
+  abbrev stamps_8 : Bool
+  stamps_8 =
       at_or_before f.m f.last && at_or_before f.k f.last && at_or_before f.r f.last
       && (at_or_before f.m f.k && at_or_before f.k f.r)
 
-  pub in_8 : {K : Key} → K ≡ second_at f → there (as_S8 f) ≡ (no_thumb f && second_fits f && two stamps-8 K)
+  pub in_8 : {K : Key} → K ≡ second_at f → there (as_S8 f) ≡ (no_thumb f && second_fits f && two stamps_8 K)
   unfolding as_S8
   in_8 k =
       if_given (no_thumb f && second_fits f) (some (S8 (character f) f.m (second_character f) f.k f.r))
-      ∙ seconds (no_thumb f) (two stamps-8) k
+      ∙ seconds (no_thumb f) (two stamps_8) k
 
   pub by_tests : formed g f
       ≡ (in_range (settings_named f) && at_or_before f.last (at largest_stamp) && held_formed f.held && there (resting_named f))

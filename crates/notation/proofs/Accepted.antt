@@ -13,7 +13,7 @@ use lib.Seq.{take_at}
 use Rattle.choice.specs.Choice.{if◌then◌else◌}
 use Rattle.rules.specs.Pairs.{Lent, lent_good, no_pairs}
 use Rattle.rules.specs.States.{well_formed, opening}
-use Rattle.rules.specs.GivenBack.{input, Verdict, refused as refused-event, accepted as accepted-event, judge_input, judge, answer}
+use Rattle.rules.specs.GivenBack.{input, Verdict, refused as refused_event, accepted as accepted_event, judge_input, judge, answer}
 use Rattle.rules.specs.GivenBack.{step_with}
 use Rattle.rules.specs.declared.Machine.{Machine}
 use Rattle.rules.specs.declared.Event.{Event}

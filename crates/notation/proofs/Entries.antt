@@ -32,7 +32,7 @@ use Rattle.notation.specs.Transcribing.{reading, behind}
 use Rattle.notation.specs.Transcribing.{base, most, last, whole, takes_letters, digit_value, at_sign, entry_step, step, Log}
 use Rattle.notation.specs.Transcribing.{with_output, from}
 use Rattle.notation.proofs.Passing.{Passes, ◌and_on◌, no_digit_32, number_passes, code_point_passes}
-use Rattle.notation.proofs.RecordBytes.{log-to, log_begins, log_grows, log_ends}
+use Rattle.notation.proofs.RecordBytes.{log_to, log_begins, log_grows, log_ends}
 
 -- signs behind a number, with or without a blank before them
 record Said (v : ℕ) (l : Log) : Type 0 where
@@ -153,11 +153,11 @@ module _ (r : List ℕ) (bytes : Bytes r) (long : length r ≡ stated r) (before
   abbrev pub at_start : Log
   at_start = record { records = before; body = [] }
 
-  abbrev pub with-record : Log
-  with-record = record { records = before ++ r; body = [] }
+  abbrev pub with_record : Log
+  with_record = record { records = before ++ r; body = [] }
 
   abbrev pub so_far : ℕ → Log
-  so_far at = log-to r bytes long before at
+  so_far at = log_to r bytes long before at
 
   -- one of the record's numbers, n bytes at a place: the number before it goes into the log, and this one is read
   module _ (g f : Field) (v s n at : ℕ) (announced : following g v s ≡ Reads f (push (suc n) v)) (e : v ≡ number (suc n) at r)
@@ -180,7 +180,7 @@ module _ (r : List ℕ) (bytes : Bytes r) (long : length r ≡ stated r) (before
     unfolding from step entry_step at_sign digit_value takes_letters is_digit is_blank ends_entry with_sign
     T_said = record { goes_on = λ rest. refl }
 
-    pub settings_pass : Passes start (so_far 3) (settings_text (settings r)) start with-record
+    pub settings_pass : Passes start (so_far 3) (settings_text (settings r)) start with_record
     unfolding settings_text settings following
     settings_pass =
         let t = number 2 3 r in
@@ -219,7 +219,7 @@ module _ (r : List ℕ) (bytes : Bytes r) (long : length r ≡ stated r) (before
     stamp_most : number 8 5 r ≤ 18_446_744_073_709_551_615
     stamp_most = omega (arith, bytes 5, bytes 6, bytes 7, bytes 8, bytes 9, bytes 10, bytes 11, bytes 12)
 
-    pub event_pass : Passes start (so_far 3) (event_text (event r)) start with-record
+    pub event_pass : Passes start (so_far 3) (event_text (event r)) start with_record
     unfolding event_text event
     event_pass =
         let few : length r ≡ 13 = event_long in
@@ -247,7 +247,7 @@ module _ (r : List ℕ) (bytes : Bytes r) (long : length r ≡ stated r) (before
     -- pairs behind a number of a list, N or a pair's character, and the line's end
     pairs_pass : (k : ℕ) (f : Field) (v n at : ℕ) → following f v no_signs ≡ Reads First (push (suc n) v)
         → whole f v start ≡ Next start (last 3 (suc n) v) → v ≡ number (suc n) at r → 3 ≤ at → at + suc n + 4 * k ≡ length r
-        → Passes (reading f v) (so_far at) (pairs_text (pairs_from k (at + suc n) r) ++ lines.line_end) start with-record
+        → Passes (reading f v) (so_far at) (pairs_text (pairs_from k (at + suc n) r) ++ lines.line_end) start with_record
     unfolding pair_text following
     pairs_pass zero f v n at announced ends e h fits = log_ends r bytes long before f 2 n at v ends list_tag h (omega arith) e
     pairs_pass (suc k) f v n at announced ends e h fits =
@@ -274,7 +274,7 @@ module _ (r : List ℕ) (bytes : Bytes r) (long : length r ≡ stated r) (before
     unfolding from step entry_step at_sign digit_value takes_letters is_digit is_blank ends_entry with_sign
     Ts_said = record { goes_on = λ rest. refl }
 
-    pub list_pass : Passes start (so_far 3) (list_text (list r)) start with-record
+    pub list_pass : Passes start (so_far 3) (list_text (list r)) start with_record
     unfolding list_text list following
     list_pass =
         let ts = number 2 3 r in

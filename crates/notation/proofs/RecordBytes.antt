@@ -33,13 +33,13 @@ module _ (r : List ℕ) (bytes : Bytes r) where
       ∙ sym (take-suc (drop at r) n 0 inside ∙ ap (λ (x : ℕ). take n (drop at r) ++ (x ∷ [])) (get_or-drop at r n 0))
 
   -- the body up to a place of the record
-  abbrev pub body-to : ℕ → List ℕ
-  body-to at = drop 3 (take at r)
+  abbrev pub body_to : ℕ → List ℕ
+  body_to at = drop 3 (take at r)
 
-  body_grows : (n at : ℕ) → 3 ≤ at → at + n ≤ length r → body-to at ++ bytes_of n (number n at r) ≡ body-to (at + n)
+  body_grows : (n at : ℕ) → 3 ≤ at → at + n ≤ length r → body_to at ++ bytes_of n (number n at r) ≡ body_to (at + n)
   body_grows n at h fits =
       let long : 3 ≤ length (take at r) = rw (length-take-le at r (omega arith)) h in
-      ap (λ (l : List ℕ). body-to at ++ l) (bytes_back n at fits)
+      ap (λ (l : List ℕ). body_to at ++ l) (bytes_back n at fits)
       ∙ sym (ap (drop 3) (take-add at n r) ∙ drop-append-le 3 (take at r) (take n (drop at r)) long)
 
   module _ (long : length r ≡ stated r) where
@@ -67,27 +67,27 @@ module _ (r : List ℕ) (bytes : Bytes r) where
 
     -- A transcriber's log while it reads the record, with other records before it.
     module _ (before : List ℕ) where
-      abbrev pub log-to : ℕ → Log
-      log-to at = record { records = before; body = body-to at }
+      abbrev pub log_to : ℕ → Log
+      log_to at = record { records = before; body = body_to at }
 
-      pub log_begins : log-to 3 ≡ record { records = before; body = [] }
+      pub log_begins : log_to 3 ≡ record { records = before; body = [] }
       log_begins =
           ap (λ (l : List ℕ). record { records = before; body = l })
           (drop_of_length-le (take 3 r) {i = 3} (omega (arith, length-take-le 3 r at_least)))
 
       pub log_grows : (n at v : ℕ) → 3 ≤ at → at + suc n ≤ length r → v ≡ number (suc n) at r
-          → with_output (log-to at) (push (suc n) v) ≡ log-to (at + suc n)
+          → with_output (log_to at) (push (suc n) v) ≡ log_to (at + suc n)
       log_grows n at v h fits e =
           ap (λ (l : List ℕ). record { records = before; body = l }) (rw (e, ne_eqb (suc n) 0 (λ z. omega arith))
           (body_grows (suc n) at h fits))
 
       module _ (f : Field) (t n at v : ℕ) (ends : whole f v start ≡ Next start (last (suc t) (suc n) v)) (tagged : tag r ≡ suc t)
           (h : 3 ≤ at) (fits : at + suc n ≡ length r) (e : v ≡ number (suc n) at r) where
-        whole_body : body-to at ++ bytes_of (suc n) v ≡ drop 3 r
+        whole_body : body_to at ++ bytes_of (suc n) v ≡ drop 3 r
         whole_body =
             rw e (body_grows (suc n) at h (omega arith)) ∙ ap (drop 3) (take_all (at + suc n) r (omega arith))
 
-        pub log_ends : Passes (reading f v) (log-to at) (line_end ∷ []) start (record { records = before ++ r; body = [] })
+        pub log_ends : Passes (reading f v) (log_to at) (line_end ∷ []) start (record { records = before ++ r; body = [] })
         unfolding from step entry_step at_sign ended is_blank ends_entry
         log_ends =
             record {

@@ -21,7 +21,7 @@ use Rattle.mending.specs.Mending.{Mending, mend}
 use Rattle.mending.proofs.Laws.{mend_laws}
 use Rattle.mending.proofs.LogParts.{Wholes}
 use Rattle.notation.specs.Notation.{record_text, texts, refusal_text, whole_reading, accepted_front, notated}
-use Rattle.notation.specs.RoundTrip.{Bytes, RoundTrip}
+use Rattle.notation.specs.RoundTrip.{Bytes, RoundTripStatement}
 use Rattle.notation.specs.Transcribing.{start, empty, takes_letters, digit_value, is_blank, ends_entry, ended, at_sign, entry_step}
 use Rattle.notation.specs.Transcribing.{step}
 use Rattle.notation.specs.Transcribing.{Log, Transcript, log, from, transcribed}
@@ -106,5 +106,5 @@ module _ (l : List ℕ) (bytes : Bytes l) where
       )) in
       front_back ∙ ap log all
 
-pub round_trip : RoundTrip
+pub round_trip : RoundTripStatement
 round_trip l bytes = record { front = front_back l bytes; accepted = whole_back l bytes }

@@ -15,5 +15,5 @@ pub record RoundTrip (l : List ℕ) : Type 0 where
   pub front : transcribed (notated l) ≡ log (accepted_front l)
   pub accepted : (room : ℕ) → Accepts (read room l) → transcribed (notated l) ≡ log l
 
-abbrev pub RoundTrip : Type 0
-RoundTrip = (l : List ℕ) → Bytes l → RoundTrip l
+abbrev pub RoundTripStatement : Type 0
+RoundTripStatement = (l : List ℕ) → Bytes l → RoundTrip l

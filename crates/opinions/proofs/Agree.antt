@@ -8,10 +8,10 @@ use mathlib.Core.Path.{◌≡◌, refl, sym, ap, ◌∙◌}
 use lib.Dec.{eqb, ltb, leb}
 use lib.ListN.{length}
 use Rattle.choice.specs.Choice.{if◌then◌else◌}
-use Rattle.rules.specs.Pairs.{Lent, pair_of, in_some_pair, alone as alone-wait}
+use Rattle.rules.specs.Pairs.{Lent, pair_of, in_some_pair, alone as alone_wait}
 use Rattle.rules.specs.States.{lag, deadline}
 use Rattle.rules.specs.OneEvent.{Done, ◌leaving◌, nothing, same_key, same_thumb, second_character_takes_thumb, second_thumb_takes_character}
-use Rattle.rules.specs.OneEvent.{short_overlap, mark as rule-mark, late as late_line, act, due_by, settle_in, settle, and_then, one_event}
+use Rattle.rules.specs.OneEvent.{short_overlap, mark as rule_mark, late as late_line, act, due_by, settle_in, settle, and_then, one_event}
 use Rattle.rules.specs.Sequences.{waiting}
 use Rattle.rules.specs.declared.Stamp.{Stamp}
 use Rattle.rules.specs.declared.Key.{Key}
@@ -28,8 +28,8 @@ use Rattle.choice.proofs.Choices.{either}
 use Rattle.rules.proofs.Late.{settle_once}
 use Rattle.opinions.specs.Earlier.{is}
 use Rattle.opinions.specs.Opinion.{matters, late, ahead, short, Set, free, thumb, given, Decision, over, on, after, which}
-use Rattle.opinions.specs.Opinion.{released, letter-first, from-letter-first, thumb-first, from-thumb-first, letter-alone}
-use Rattle.opinions.specs.Opinion.{from-letter, thumb-alone, decide, Told, told, tell, follow, from}
+use Rattle.opinions.specs.Opinion.{released, letter_first, from_letter_first, thumb_first, from_thumb_first, letter_alone}
+use Rattle.opinions.specs.Opinion.{from_letter, thumb_alone, decide, Told, told, tell, follow, from}
 
 -- what acts: an input and its stamp
 pub record Stroke : Type 0 where
@@ -223,15 +223,15 @@ module _ (t_s percent : ℕ) where
     given_on {i} O o N now es l r = (omega arith, record { left = es; P = O; o = o; N = N; n = now; is = refl; are = refl; goes = r })
 
     module _ (O : Thumb) (o : Stamp) (M : Key) (m r : Stamp) where
-      abbrev R-decides : List Event → Decision
-      R-decides = released s (event 3 (number O) o) (event 1 M m) (deadline g s (S6 O o M m r))
+      abbrev R_decides : List Event → Decision
+      R_decides = released s (event 3 (number O) o) (event 1 M m) (deadline g s (S6 O o M m r))
 
-      released_lates : Lates s n (S6 O o M m r) (some (event 1 M m)) none R-decides n
-      unfolding rule-mark
+      released_lates : Lates s n (S6 O o M m r) (some (event 1 M m)) none R_decides n
+      unfolding rule_mark
       released_lates i now es l q = rw (q, which_is) (freed (stroke i now) es l refl)
 
-      released_meets : Meets s n (S6 O o M m r) (some (event 1 M m)) none R-decides n
-      unfolding matters run one_event settle settle_in same_key rule-mark
+      released_meets : Meets s n (S6 O o M m r) (some (event 1 M m)) none R_decides n
+      unfolding matters run one_event settle settle_in same_key rule_mark
       released_meets (CharacterDown N) now es l q = decides refl (rw (q, which_is) (freed (stroke (CharacterDown N) now) es l refl))
       released_meets (CharacterUp N) now es l q =
           either (eqb N.0 M.0)
@@ -242,17 +242,17 @@ module _ (t_s percent : ℕ) where
       released_meets Tick now es l q = passes refl refl
 
       released_right : (es : List Stroke) → 2 * length (events es) + 1 < n
-          → Right s n (R-decides (ahead (some (event 1 M m)) none (deadline g s (S6 O o M m r)) (events es))) (run s (S6 O o M m r) es)
-      released_right = looks s n (S6 O o M m r) (some (event 1 M m)) none R-decides n refl released_lates released_meets
+          → Right s n (R_decides (ahead (some (event 1 M m)) none (deadline g s (S6 O o M m r)) (events es))) (run s (S6 O o M m r) es)
+      released_right = looks s n (S6 O o M m r) (some (event 1 M m)) none R_decides n refl released_lates released_meets
 
     module _ (M : Key) (m : Stamp) (O : Thumb) (o : Stamp) where
-      abbrev L-decides : List Event → Decision
-      L-decides = letter-first s (event 1 M m) (event 3 (number O) o) (deadline g s (S4 M m O o))
+      abbrev L_decides : List Event → Decision
+      L_decides = letter_first s (event 1 M m) (event 3 (number O) o) (deadline g s (S4 M m O o))
 
-      letter-first-lates : Lates s n (S4 M m O o) (some (event 1 M m)) (some (event 3 (number O) o)) L-decides n
+      letter-first-lates : Lates s n (S4 M m O o) (some (event 1 M m)) (some (event 3 (number O) o)) L_decides n
       letter-first-lates i now es l q = rw (q, which_is) (freed (stroke i now) es l refl)
 
-      letter-first-meets : Meets s n (S4 M m O o) (some (event 1 M m)) (some (event 3 (number O) o)) L-decides n
+      letter-first-meets : Meets s n (S4 M m O o) (some (event 1 M m)) (some (event 3 (number O) o)) L_decides n
       unfolding matters short run one_event settle settle_in same_key second_character_takes_thumb short_overlap
       letter-first-meets (CharacterDown N) now es l q =
           either (ltb (lag o now) (lag m o))
@@ -275,19 +275,19 @@ module _ (t_s percent : ℕ) where
       letter-first-meets Tick now es l q = passes refl refl
 
       letter-first-right : (es : List Stroke) → 2 * length (events es) + 1 < n
-          → Right s n (from-letter-first s (event 1 M m) (event 3 (number O) o) (events es)) (run s (S4 M m O o) es)
+          → Right s n (from_letter_first s (event 1 M m) (event 3 (number O) o) (events es)) (run s (S4 M m O o) es)
       letter-first-right =
-          looks s n (S4 M m O o) (some (event 1 M m)) (some (event 3 (number O) o)) L-decides n refl letter-first-lates letter-first-meets
+          looks s n (S4 M m O o) (some (event 1 M m)) (some (event 3 (number O) o)) L_decides n refl letter-first-lates letter-first-meets
 
     module _ (O : Thumb) (o : Stamp) (M : Key) (m : Stamp) where
-      abbrev T-decides : List Event → Decision
-      T-decides = thumb-first s (event 3 (number O) o) (event 1 M m) (deadline g s (S5 O o M m))
+      abbrev T_decides : List Event → Decision
+      T_decides = thumb_first s (event 3 (number O) o) (event 1 M m) (deadline g s (S5 O o M m))
 
-      thumb_first_lates : Lates s n (S5 O o M m) (some (event 1 M m)) (some (event 3 (number O) o)) T-decides n
+      thumb_first_lates : Lates s n (S5 O o M m) (some (event 1 M m)) (some (event 3 (number O) o)) T_decides n
       thumb_first_lates i now es l q = rw (q, which_is) (freed (stroke i now) es l refl)
 
-      thumb_first_meets : Meets s n (S5 O o M m) (some (event 1 M m)) (some (event 3 (number O) o)) T-decides n
-      unfolding matters short run one_event settle settle_in same_key second_thumb_takes_character short_overlap rule-mark
+      thumb_first_meets : Meets s n (S5 O o M m) (some (event 1 M m)) (some (event 3 (number O) o)) T_decides n
+      unfolding matters short run one_event settle settle_in same_key second_thumb_takes_character short_overlap rule_mark
       thumb_first_meets (CharacterDown N) now es l q = decides refl (rw (q, which_is) (freed (stroke (CharacterDown N) now) es l refl))
       thumb_first_meets (CharacterUp N) now es l q =
           either (eqb N.0 M.0)
@@ -296,7 +296,7 @@ module _ (t_s percent : ℕ) where
           either (same_thumb P O) (λ e. passes (rw (same_is, e)) (rw e))
           (λ e. either (leb (lag m now) (lag o m))
           (λ h. decides (rw (same_is, e)) (rw (q, e, h, which_is)
-          (right_after s n (rule-mark s O) (from-letter-first s (event 1 M m) (event 3 (number P) now) (events es))
+          (right_after s n (rule_mark s O) (from_letter_first s (event 1 M m) (event 3 (number P) now) (events es))
           (run s (S4 M m P now) es) (letter-first-right M m P now es (omega arith)))))
           (λ h. decides (rw (same_is, e)) (rw (q, e, h, which_is) (freed (stroke (ThumbDown P) now) es l refl))))
       thumb_first_meets (ThumbUp P) now es l q =
@@ -309,18 +309,18 @@ module _ (t_s percent : ℕ) where
       thumb_first_meets Tick now es l q = passes refl refl
 
       thumb_first_right : (es : List Stroke) → 2 * length (events es) + 1 < n
-          → Right s n (from-thumb-first s (event 3 (number O) o) (event 1 M m) (events es)) (run s (S5 O o M m) es)
+          → Right s n (from_thumb_first s (event 3 (number O) o) (event 1 M m) (events es)) (run s (S5 O o M m) es)
       thumb_first_right =
-          looks s n (S5 O o M m) (some (event 1 M m)) (some (event 3 (number O) o)) T-decides n refl thumb_first_lates thumb_first_meets
+          looks s n (S5 O o M m) (some (event 1 M m)) (some (event 3 (number O) o)) T_decides n refl thumb_first_lates thumb_first_meets
 
     module _ (M : Key) (m : Stamp) where
-      abbrev A-decides : List Event → Decision
-      A-decides = letter-alone s (event 1 M m) (deadline g s (S2 M m))
+      abbrev A_decides : List Event → Decision
+      A_decides = letter_alone s (event 1 M m) (deadline g s (S2 M m))
 
-      letter-alone-lates : Lates s n (S2 M m) (some (event 1 M m)) none A-decides n
+      letter-alone-lates : Lates s n (S2 M m) (some (event 1 M m)) none A_decides n
       letter-alone-lates i now es l q = rw q (freed (stroke i now) es l refl)
 
-      letter-alone-meets : Meets s n (S2 M m) (some (event 1 M m)) none A-decides n
+      letter-alone-meets : Meets s n (S2 M m) (some (event 1 M m)) none A_decides n
       unfolding matters run one_event settle settle_in same_key pair_of
       letter-alone-meets (CharacterDown N) now es l q = decides refl (rw q (freed (stroke (CharacterDown N) now) es l refl))
       letter-alone-meets (CharacterUp N) now es l q =
@@ -332,25 +332,25 @@ module _ (t_s percent : ℕ) where
       letter-alone-meets Tick now es l q = passes refl refl
 
       letter-alone-right : (es : List Stroke) → 2 * length (events es) + 1 < n
-          → Right s n (from-letter s (event 1 M m) (events es)) (run s (S2 M m) es)
-      unfolding alone-wait in_some_pair
-      letter-alone-right = looks s n (S2 M m) (some (event 1 M m)) none A-decides n refl letter-alone-lates letter-alone-meets
+          → Right s n (from_letter s (event 1 M m) (events es)) (run s (S2 M m) es)
+      unfolding alone_wait in_some_pair
+      letter-alone-right = looks s n (S2 M m) (some (event 1 M m)) none A_decides n refl letter-alone-lates letter-alone-meets
 
     module _ (O : Thumb) (o : Stamp) where
-      abbrev O-decides : List Event → Decision
-      O-decides = thumb-alone s (event 3 (number O) o) (deadline g s (S3 O o))
+      abbrev O_decides : List Event → Decision
+      O_decides = thumb_alone s (event 3 (number O) o) (deadline g s (S3 O o))
 
       -- nothing set any more, and on from this event, which may be met by the next decision
       thumb_ends : {i : List Item} (e : Stroke) (es : List Stroke) {t : Told} → 2 * length (events es) + 3 < suc n
           → t ≡ tell i (run s S1 (e ∷ es)) → Right s n (on i free (events (e ∷ es))) t
       thumb_ends {i} e es l r = (omega arith, record { left = e ∷ es; are = refl; goes = r })
 
-      thumb_alone_lates : Lates s n (S3 O o) none (some (event 3 (number O) o)) O-decides (suc n)
-      unfolding rule-mark
+      thumb_alone_lates : Lates s n (S3 O o) none (some (event 3 (number O) o)) O_decides (suc n)
+      unfolding rule_mark
       thumb_alone_lates i now es l q = rw (q, which_is) (thumb_ends (stroke i now) es l refl)
 
-      thumb_alone_meets : Meets s n (S3 O o) none (some (event 3 (number O) o)) O-decides (suc n)
-      unfolding matters run one_event settle settle_in rule-mark
+      thumb_alone_meets : Meets s n (S3 O o) none (some (event 3 (number O) o)) O_decides (suc n)
+      unfolding matters run one_event settle settle_in rule_mark
       thumb_alone_meets (CharacterDown N) now es l q = decides refl (rw q (thumb_first_right O o N now es (omega arith)))
       thumb_alone_meets (CharacterUp N) now es l q = passes refl refl
       thumb_alone_meets (ThumbDown P) now es l q =
@@ -365,7 +365,7 @@ module _ (t_s percent : ℕ) where
 
       thumb_right : (es : List Stroke) → 2 * length (events es) + 1 < suc n
           → Right s n (decide s (thumb (event 3 (number O) o)) (events es)) (run s (S3 O o) es)
-      thumb_right = looks s n (S3 O o) none (some (event 3 (number O) o)) O-decides (suc n) refl thumb_alone_lates thumb_alone_meets
+      thumb_right = looks s n (S3 O o) none (some (event 3 (number O) o)) O_decides (suc n) refl thumb_alone_lates thumb_alone_meets
 
     -- nothing set: a letter, a thumb, or one event further
     free_meets : (i : Input) (now : Stamp) (es : List Stroke) → 2 * length (events es) + 1 < n
@@ -409,7 +409,7 @@ module _ (t_s percent : ℕ) where
       let k : 2 * length (event 1 r.N r.n ∷ events r.left) + 1 < suc n = rw r.are at l in
       r.goes
       ∙ rw (r.are, r.is)
-      (follows_decision s n (follows s n) i (from-thumb-first s (event 3 (number r.P) r.o) (event 1 r.N r.n) (events r.left))
+      (follows_decision s n (follows s n) i (from_thumb_first s (event 3 (number r.P) r.o) (event 1 r.N r.n) (events r.left))
       (run s (S5 r.P r.o r.N r.n) r.left) (thumb_first_right s n r.P r.o r.N r.n r.left (omega arith)))
 
   -- from the first place, with two decisions for each event, and one

@@ -13,7 +13,7 @@ use Rattle.rules.specs.Numbers.{keys, largest_stamp, in_range}
 use Rattle.rules.specs.Held.{is_held, held_below as keys_below, held_keys, how_many}
 use Rattle.rules.specs.Pairs.{Lent, lent_good, same_key}
 use Rattle.rules.specs.States.{fresh, is_key, well_formed}
-use Rattle.rules.specs.GivenBack.{with_character, with_thumb, with_0, input, acts_as, is_new, too_many as too-many-for, judge_input, judge}
+use Rattle.rules.specs.GivenBack.{with_character, with_thumb, with_0, input, acts_as, is_new, too_many as too_many_for, judge_input, judge}
 use Rattle.rules.specs.GivenBack.{refused, accepted as accepted_as, Answer, answer, step_with, step}
 use Rattle.rules.specs.HeldRules.{held_then}
 use Rattle.rules.specs.declared.Stamp.{Stamp}
@@ -161,7 +161,7 @@ module _ (g : Lent) (good : lent_good g ≡ true) (m : Machine) (before : List E
   by_input (some i) (input_is a b c) =
       let count : how_many m.held ≡ held_below keys before =
       count_held m.held before w.held_is (machine_formed g m w.formed).below in
-      number_by (ltb largest_stamp e.stamp.0) (ltb e.stamp.0 m.last.0) (too-many-for m e) (acts_as m.held i)
+      number_by (ltb largest_stamp e.stamp.0) (ltb e.stamp.0 m.last.0) (too_many_for m e) (acts_as m.held i)
       ∙ rw (a, w.last_is, w.held_is e.key, count)
 
   -- the number of an event

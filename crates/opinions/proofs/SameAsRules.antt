@@ -16,7 +16,7 @@ use Rattle.rules.specs.declared.Event.{Event}
 use Rattle.rules.proofs.Steps.{taken, step_cases}
 use Rattle.opinions.specs.Earlier.{heard, number_after, accepted}
 use Rattle.opinions.specs.Opinion.{Told, told, tell, opinion}
-use Rattle.opinions.specs.SameAsRules.{SameAsRules}
+use Rattle.opinions.specs.SameAsRules.{SameAsRulesStatement}
 use Rattle.opinions.proofs.Agree.{Stroke, stroke, events, g, run, agrees}
 use Rattle.opinions.proofs.Back.{Knows, knows_fresh, number_is, heard_of, knows_next}
 
@@ -80,7 +80,7 @@ module _ (t n : ℕ) (good : lent_good (g t n) ≡ true) where
       rw yes (knows_after _ (e ∷ before) es (knows_next (g t n) good m before w e i a q)))
       refl
 
-pub same_as_rules : SameAsRules
+pub same_as_rules : SameAsRulesStatement
 unfolding opinion
 same_as_rules t n good s r es =
     let w = knows_fresh (g t n) s r in

@@ -83,54 +83,54 @@ module _ (s : Settings) where
   released O M due (e ∷ es) =
       if late due e || is 5 e then on (mark O ++ alone M) free (e ∷ es) else on (together M O) free (e ∷ es)
 
-  abbrev pub from-released : Event → Event → Event → List Event → Decision
-  from-released O M R es = let due = due_after R (gap M R) in released O M due (ahead (some M) none due es)
+  abbrev pub from_released : Event → Event → Event → List Event → Decision
+  from_released O M R es = let due = due_after R (gap M R) in released O M due (ahead (some M) none due es)
 
   -- S4, letter, then thumb. In time another letter, nearer to O than M is: M alone, and O is given to it. In time M up after a short
   -- overlap: M alone, and O stays set. Else M with O.
-  abbrev pub letter-first : Event → Event → Option Stamp → List Event → Decision
-  letter-first M O due [] = waits M
-  letter-first M O due (e ∷ es) =
+  abbrev pub letter_first : Event → Event → Option Stamp → List Event → Decision
+  letter_first M O due [] = waits M
+  letter_first M O due (e ∷ es) =
       if in_time 1 due e && ltb (gap O e) (gap M O) then on (alone M) (given O) (e ∷ es) else
       if in_time 2 due e && short s.j (gap M O) (gap O e) then on (alone M) (thumb O) es else
       on (together M O) free (e ∷ es)
 
-  abbrev pub from-letter-first : Event → Event → List Event → Decision
-  from-letter-first M O es = let due = due_after O (FJ s (gap M O)) in letter-first M O due (ahead (some M) (some O) due es)
+  abbrev pub from_letter_first : Event → Event → List Event → Decision
+  from_letter_first M O es = let due = due_after O (FJ s (gap M O)) in letter_first M O due (ahead (some M) (some O) due es)
 
   -- S5, thumb, then letter. In time another thumb, no further from M than O is: a mark, and M is looked at with that thumb. In time O up
   -- after a short overlap: one looks once more. Else M with O.
-  abbrev pub thumb-first : Event → Event → Option Stamp → List Event → Decision
-  thumb-first O M due [] = waits M
-  thumb-first O M due (e ∷ es) =
-      if in_time 3 due e && leb (gap M e) (gap O M) then after (mark O) (from-letter-first M e es) else
-      if in_time 4 due e && short s.l (gap O M) (gap M e) then from-released O M e es else
+  abbrev pub thumb_first : Event → Event → Option Stamp → List Event → Decision
+  thumb_first O M due [] = waits M
+  thumb_first O M due (e ∷ es) =
+      if in_time 3 due e && leb (gap M e) (gap O M) then after (mark O) (from_letter_first M e es) else
+      if in_time 4 due e && short s.l (gap O M) (gap M e) then from_released O M e es else
       on (together M O) free (e ∷ es)
 
-  abbrev pub from-thumb-first : Event → Event → List Event → Decision
-  from-thumb-first O M es = let due = due_after M (FL s (min (gap O M) (B s))) in thumb-first O M due (ahead (some M) (some O) due es)
+  abbrev pub from_thumb_first : Event → Event → List Event → Decision
+  from_thumb_first O M es = let due = due_after M (FL s (min (gap O M) (B s))) in thumb_first O M due (ahead (some M) (some O) due es)
 
   -- S2, a letter, and no thumb set. In time a thumb: they are looked at together. Else M alone.
-  abbrev pub letter-alone : Event → Option Stamp → List Event → Decision
-  letter-alone M due [] = waits M
-  letter-alone M due (e ∷ es) = if in_time 3 due e then from-letter-first M e es else on (alone M) free (e ∷ es)
+  abbrev pub letter_alone : Event → Option Stamp → List Event → Decision
+  letter_alone M due [] = waits M
+  letter_alone M due (e ∷ es) = if in_time 3 due e then from_letter_first M e es else on (alone M) free (e ∷ es)
 
-  abbrev pub from-letter : Event → List Event → Decision
-  from-letter M es = let due = due_after M (A s) in letter-alone M due (ahead (some M) none due es)
+  abbrev pub from_letter : Event → List Event → Decision
+  from_letter M es = let due = due_after M (A s) in letter_alone M due (ahead (some M) none due es)
 
   -- S3, a thumb set. In time a letter: they are looked at together. Else a mark.
-  abbrev pub thumb-alone : Event → Option Stamp → List Event → Decision
-  thumb-alone O due [] = over [] []
-  thumb-alone O due (e ∷ es) = if in_time 1 due e then from-thumb-first O e es else on (mark O) free (e ∷ es)
+  abbrev pub thumb_alone : Event → Option Stamp → List Event → Decision
+  thumb_alone O due [] = over [] []
+  thumb_alone O due (e ∷ es) = if in_time 1 due e then from_thumb_first O e es else on (mark O) free (e ∷ es)
 
   -- From a place. S1, nothing set: a letter, a thumb, or one event further. A lone thumb has a deadline only if a mark is wanted, and a
   -- thumb that was given to the letter at this place is not asked for it.
   abbrev pub decide : Set → List Event → Decision
   decide free [] = over [] []
-  decide free (e ∷ es) = if is 1 e then from-letter e es else if is 3 e then on [] (thumb e) es else on [] free es
-  decide (thumb O) es = let due = if eqb s.solo 1 then due_after O (B s) else none in thumb-alone O due (ahead none (some O) due es)
+  decide free (e ∷ es) = if is 1 e then from_letter e es else if is 3 e then on [] (thumb e) es else on [] free es
+  decide (thumb O) es = let due = if eqb s.solo 1 then due_after O (B s) else none in thumb_alone O due (ahead none (some O) due es)
   decide (given O) [] = over [] []
-  decide (given O) (M ∷ es) = from-thumb-first O M es
+  decide (given O) (M ∷ es) = from_thumb_first O M es
 
 -- what is decided in all, and what waits
 pub record Told : Type 0 where

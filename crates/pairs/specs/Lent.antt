@@ -5,7 +5,7 @@ use Rattle.std.proofs.Math.Option.{Option, none, some}
 use Rattle.rules.specs.Pairs.{Pair, Lent}
 use Rattle.pairs.specs.declared.Times.{Times}
 use Rattle.pairs.specs.declared.Paired.{Paired}
-use Rattle.pairs.specs.declared.Paired.TheVariants as paired-as
+use Rattle.pairs.specs.declared.Paired.TheVariants as paired_as
 
 -- bits 24 to 31, bits 16 to 23, bits 0 to 15
 abbrev pub pair_in : ℕ → Pair
@@ -24,5 +24,5 @@ of_list l = record { pairs = pairs_in l; t_s = 0; n = 0 }
 
 -- what the answer of a lookup says
 abbrev pub paired : Paired → Option ℕ
-paired paired-as.None = none
-paired (paired-as.Some c) = some c
+paired paired_as.None = none
+paired (paired_as.Some c) = some c

@@ -14,7 +14,7 @@ use lib.Seq.{take-append_seam}
 use Rattle.filled.specs.Filled.{filled, Stored}
 use Rattle.text.specs.Text.{text, Encodes}
 use Rattle.text.specs.Puts.{Puts}
-use Rattle.text.specs.declared.Encoded.TheVariants as encoded-as
+use Rattle.text.specs.declared.Encoded.TheVariants as encoded_as
 use Rattle.text.proofs.Signs.{text_short}
 use Rattle.status_line.specs.Status.{below}
 use Rattle.status_line.proofs.Statuses.{below_stored}
@@ -50,14 +50,14 @@ filled_stored new run n after e f = record { behind = e ∙ sym (zero-add (lengt
 
 -- the answer of `encode` where the text fits
 module _ (words run after : List ℕ) (fits : length (text words) ≤ length run) where
-  pub line_stored : (n : ℕ) → Encodes words run (encoded-as.Bytes n) after → Stored 0 (text words) run n after
+  pub line_stored : (n : ℕ) → Encodes words run (encoded_as.Bytes n) after → Stored 0 (text words) run n after
   line_stored n e =
       let t : leb (length (text words)) (length run) ≡ true = le-leb (length (text words)) (length run) fits in
       filled_stored (text words) run n after
       (some-injective n (length (text words)) (rw t at e.answered))
       (rw t at e.written)
 
-  pub line_fits : Encodes words run encoded-as.Full after → ⊥
+  pub line_fits : Encodes words run encoded_as.Full after → ⊥
   line_fits e =
       let t : leb (length (text words)) (length run) ≡ true = le-leb (length (text words)) (length run) fits in
       none-ne-some (length (text words)) (rw t at e.answered)

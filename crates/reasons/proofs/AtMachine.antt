@@ -21,7 +21,7 @@ use Rattle.rules.proofs.Steps.{Accepted, taken, judge_cases}
 use Rattle.rules.proofs.Ticks.{not_0}
 use Rattle.reasons.specs.Turning.{decided, since}
 use Rattle.reasons.specs.Reason.{step_reasons}
-use Rattle.reasons.specs.ReasonFacts.{TrueReasons, event_at, decision_of, TurnsAtMachine}
+use Rattle.reasons.specs.ReasonFacts.{TrueReasonsStatement, event_at, decision_of, TurnsAtMachine}
 use Rattle.reasons.proofs.Items.{same_items, true_cause}
 use Rattle.reasons.proofs.Turnings.{true_turnings}
 use Rattle.reasons.proofs.Margins.{true_margins}
@@ -89,7 +89,7 @@ answered : (g : Lent) (m : Machine) (e : Event) (k : Taken g m e) → step g m e
 unfolding step step_with
 answered g m e k = rw (k.passed_all.was_good, k.judged)
 
-pub true_reasons : TrueReasons
+pub true_reasons : TrueReasonsStatement
 unfolding step_reasons
 true_reasons g m e h =
     let k = was_taken g m e h in

@@ -19,7 +19,7 @@ use Rattle.rules.specs.declared.Input.{Input}
 use Rattle.choice.proofs.Choices.{by_test}
 use Rattle.reasons.specs.Turning.{decided, since, turnings, passed, next_turn, or_else, last_turn}
 use Rattle.reasons.specs.Reason.{sooner_at, Otherwise, otherwise, if_later, if_sooner}
-use Rattle.reasons.specs.ReasonFacts.{sooner, Ordered, Turns, TrueMargins}
+use Rattle.reasons.specs.ReasonFacts.{sooner, Ordered, Turns, TrueMarginsStatement}
 use Rattle.reasons.proofs.Turnings.{true_turnings}
 
 -- How many of ordered stamps are passed.
@@ -205,7 +205,7 @@ module _ (g : Lent) (s : Settings) (now : Stamp) (x : Resting) (i : Input) (from
             never = λ f. absurd (none-ne-some _ (sym f));
           }
 
-pub true_margins : TrueMargins
+pub true_margins : TrueMarginsStatement
 true_margins g good s in-r now x i from =
     let r = true_turnings g good s in-r x i in
     let n = if_next g s now x i from r (next_turn now (turnings g s x i)) refl in

@@ -18,7 +18,7 @@ use Rattle.rules.specs.declared.Input.TheVariants.{CharacterDown, CharacterUp, T
 use Rattle.choice.proofs.Choices.{either}
 use Rattle.reasons.specs.Turning.{decision}
 use Rattle.reasons.specs.Reason.{comes_out, compared}
-use Rattle.reasons.specs.ReasonFacts.{TrueTest}
+use Rattle.reasons.specs.ReasonFacts.{TrueTestStatement}
 use Rattle.reasons.proofs.Items.{when_in_time}
 use Rattle.reasons.proofs.Sides.{leave_another, commit_another}
 
@@ -180,7 +180,7 @@ module _ (g : Lent) (s : Settings) where
   by_its_test (S7 M m K k) i = in_S7 M m K k i
   by_its_test (S8 M m K k r) i = in_S8 M m K k r i
 
-pub true_test : TrueTest
+pub true_test : TrueTestStatement
 true_test g s x i t u in-t in-u =
     let b = by_its_test g s x i in
     let at-t = ap decision (when_in_time g s t x i in-t) in

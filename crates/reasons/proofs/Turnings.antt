@@ -267,8 +267,8 @@ module _ (g : Lent) (s : Settings) where
     turns_S5 Tick = unmoved g s (S5 O o M m) Tick _ refl (λ t. refl) refl
 
   module _ (O : Thumb) (o : Stamp) (M : Key) (m r : Stamp) where
-    abbrev S6-rests : Resting
-    S6-rests = S6 O o M m r
+    abbrev S6_rests : Resting
+    S6_rests = S6 O o M m r
 
     -- M with O is not what the line "late" commits
     chord_not_late : (y : Resting) → chord M O leaving y ≢ (mark s O ++ plain M) leaving y
@@ -279,111 +279,111 @@ module _ (g : Lent) (s : Settings) where
         go true h = commit_another _ _ (rw h)
         go false h = commit_another _ _ (rw h)
 
-    turns_S6 : (i : Input) → Turns r (turnings g s S6-rests i) (decided g s S6-rests i)
+    turns_S6 : (i : Input) → Turns r (turnings g s S6_rests i) (decided g s S6_rests i)
     turns_S6 (CharacterDown N) =
-        by_deadline g s S6-rests (CharacterDown N) _ refl (chord M O leaving S2 N (at 0)) (λ t. refl) (chord_not_late (S2 N (at 0)))
+        by_deadline g s S6_rests (CharacterDown N) _ refl (chord M O leaving S2 N (at 0)) (λ t. refl) (chord_not_late (S2 N (at 0)))
     turns_S6 (CharacterUp N) =
         either (same_key N M)
-        (λ h. by_deadline g s S6-rests (CharacterUp N) _ refl (chord M O leaving S1) (λ t. rw h) (chord_not_late S1))
-        (λ h. unmoved g s S6-rests (CharacterUp N) _ refl (λ t. rw h) refl)
+        (λ h. by_deadline g s S6_rests (CharacterUp N) _ refl (chord M O leaving S1) (λ t. rw h) (chord_not_late S1))
+        (λ h. unmoved g s S6_rests (CharacterUp N) _ refl (λ t. rw h) refl)
     turns_S6 (ThumbDown P) =
-        by_deadline g s S6-rests (ThumbDown P) _ refl (chord M O leaving S3 P (at 0)) (λ t. refl) (chord_not_late (S3 P (at 0)))
+        by_deadline g s S6_rests (ThumbDown P) _ refl (chord M O leaving S3 P (at 0)) (λ t. refl) (chord_not_late (S3 P (at 0)))
     turns_S6 (ThumbUp P) =
-        unmoved g s S6-rests (ThumbUp P) _ refl (λ t. refl) refl
-    turns_S6 FunctionDown = as_late g s S6-rests FunctionDown _ refl (λ t. refl)
-    turns_S6 Tick = unmoved g s S6-rests Tick _ refl (λ t. refl) refl
+        unmoved g s S6_rests (ThumbUp P) _ refl (λ t. refl) refl
+    turns_S6 FunctionDown = as_late g s S6_rests FunctionDown _ refl (λ t. refl)
+    turns_S6 Tick = unmoved g s S6_rests Tick _ refl (λ t. refl) refl
 
   module _ (l : Good g) (M : Key) (m : Stamp) (K : Key) (k : Stamp) where
-    abbrev S7-rests : Resting
-    S7-rests = S7 M m K k
+    abbrev S7_rests : Resting
+    S7_rests = S7 M m K k
 
-    turns_S7 : (i : Input) → Turns k (turnings g s S7-rests i) (decided g s S7-rests i)
+    turns_S7 : (i : Input) → Turns k (turnings g s S7_rests i) (decided g s S7_rests i)
     turns_S7 (CharacterDown N) =
         either (is_pair g.pairs K N)
-        (λ h. by_stamp g s S7-rests (CharacterDown N) _ refl (parts_before m k) (plain M leaving S7 K (at 0) N (at 0))
+        (λ h. by_stamp g s S7_rests (CharacterDown N) _ refl (parts_before m k) (plain M leaving S7 K (at 0) N (at 0))
         (λ t f b _. rw (parted_before (lag m k) k t b, h))
         (λ t f b. rw (stays_from (lag m k) k t b))
         (leave_another _ _ refl))
-        (λ h. by_stamp g s S7-rests (CharacterDown N) _ refl (parts_before m k) ((plain M ++ plain K) leaving S2 N (at 0))
+        (λ h. by_stamp g s S7_rests (CharacterDown N) _ refl (parts_before m k) ((plain M ++ plain K) leaving S2 N (at 0))
         (λ t f b _. rw (parted_before (lag m k) k t b, h))
         (λ t f b. rw (stays_from (lag m k) k t b))
         (commit_another _ _ refl))
     turns_S7 (CharacterUp N) =
         by_cases (same_key N M)
-        (λ h. by_stamp g s S7-rests (CharacterUp N) _ refl (short_before g.n m k) (nothing leaving S8 M (at 0) K (at 0) (at 0))
+        (λ h. by_stamp g s S7_rests (CharacterUp N) _ refl (short_before g.n m k) (nothing leaving S8 M (at 0) K (at 0) (at 0))
         (λ t f b d. rw (h, short_pair_before g l (lag m k) k t f b d))
         (λ t f b. rw (h, not_short_pair_from g l (lag m k) k t b))
         (leave_another _ _ refl))
         (λ h. by_cases (same_key N K)
-        (λ j. as_late g s S7-rests (CharacterUp N) _ refl (λ t. rw (h, j)))
-        (λ j. unmoved g s S7-rests (CharacterUp N) _ refl (λ t. rw (h, j)) refl))
+        (λ j. as_late g s S7_rests (CharacterUp N) _ refl (λ t. rw (h, j)))
+        (λ j. unmoved g s S7_rests (CharacterUp N) _ refl (λ t. rw (h, j)) refl))
     turns_S7 (ThumbDown P) =
-        by_stamp g s S7-rests (ThumbDown P) _ refl (parts_before m k) (plain M leaving S4 K (at 0) P (at 0))
+        by_stamp g s S7_rests (ThumbDown P) _ refl (parts_before m k) (plain M leaving S4 K (at 0) P (at 0))
         (λ t f b _. rw (parted_before (lag m k) k t b))
         (λ t f b. rw (stays_from (lag m k) k t b))
         (leave_another _ _ refl)
     turns_S7 (ThumbUp P) =
-        unmoved g s S7-rests (ThumbUp P) _ refl (λ t. refl) refl
-    turns_S7 FunctionDown = as_late g s S7-rests FunctionDown _ refl (λ t. refl)
-    turns_S7 Tick = unmoved g s S7-rests Tick _ refl (λ t. refl) refl
+        unmoved g s S7_rests (ThumbUp P) _ refl (λ t. refl) refl
+    turns_S7 FunctionDown = as_late g s S7_rests FunctionDown _ refl (λ t. refl)
+    turns_S7 Tick = unmoved g s S7_rests Tick _ refl (λ t. refl) refl
 
   module _ (r : InRange s) (M : Key) (m : Stamp) (K : Key) (k r-up : Stamp) where
-    abbrev S8-rests : Resting
-    S8-rests = S8 M m K k r-up
+    abbrev S8_rests : Resting
+    S8_rests = S8 M m K k r-up
 
-    abbrev d-S8 : Stamp
-    d-S8 = later r-up (GN g.n (lag k r-up))
+    abbrev d_S8 : Stamp
+    d_S8 = later r-up (GN g.n (lag k r-up))
 
     -- a third key, and the deadline comes first: nothing is parted by it but what is parted already
-    late_first : (i : Input) (d : Stamp) (p : Done) → deadline g s S8-rests ≡ some d → d.0 ≤ (parts_before m k).0
-        → ((t : Stamp) → t.0 < (parts_before m k).0 → decision (act g s t S8-rests i) ≡ p)
-        → p ≢ overdue g s S8-rests i → Turns r-up (d ∷ []) (decided g s S8-rests i)
+    late_first : (i : Input) (d : Stamp) (p : Done) → deadline g s S8_rests ≡ some d → d.0 ≤ (parts_before m k).0
+        → ((t : Stamp) → t.0 < (parts_before m k).0 → decision (act g s t S8_rests i) ≡ p)
+        → p ≢ overdue g s S8_rests i → Turns r-up (d ∷ []) (decided g s S8_rests i)
     late_first i d p e h before differ =
-        turns_once r-up (decided g s S8-rests i) d p (overdue g s S8-rests i)
-        (λ t _ b. let v : t.0 < (parts_before m k).0 = omega arith in in_time g s S8-rests i d e t b ∙ before t v)
-        (λ t _ b. is_late g s S8-rests i d e t b)
+        turns_once r-up (decided g s S8_rests i) d p (overdue g s S8_rests i)
+        (λ t _ b. let v : t.0 < (parts_before m k).0 = omega arith in in_time g s S8_rests i d e t b ∙ before t v)
+        (λ t _ b. is_late g s S8_rests i d e t b)
         differ
 
-    parted_anyway : (i : Input) (d : Stamp) → deadline g s S8-rests ≡ some d → d.0 ≤ (parts_before m k).0
-        → ((t : Stamp) → t.0 < (parts_before m k).0 → decision (act g s t S8-rests i) ≡ overdue g s S8-rests i)
-        → Turns r-up [] (decided g s S8-rests i)
+    parted_anyway : (i : Input) (d : Stamp) → deadline g s S8_rests ≡ some d → d.0 ≤ (parts_before m k).0
+        → ((t : Stamp) → t.0 < (parts_before m k).0 → decision (act g s t S8_rests i) ≡ overdue g s S8_rests i)
+        → Turns r-up [] (decided g s S8_rests i)
     parted_anyway i d e h before =
-        same_always r-up (decided g s S8-rests i) (overdue g s S8-rests i)
-        (λ t _. either (leb d.0 t.0) (λ b. is_late g s S8-rests i d e t (leb-true d.0 t.0 b))
+        same_always r-up (decided g s S8_rests i) (overdue g s S8_rests i)
+        (λ t _. either (leb d.0 t.0) (λ b. is_late g s S8_rests i d e t (leb-true d.0 t.0 b))
         (λ b.
         let c : t.0 < d.0 = leb-false d.0 t.0 b in
         let v : t.0 < (parts_before m k).0 = omega arith in
-        in_time g s S8-rests i d e t c ∙ before t v))
+        in_time g s S8_rests i d e t c ∙ before t v))
 
-    turns_S8 : (i : Input) → Turns r-up (turnings g s S8-rests i) (decided g s S8-rests i)
+    turns_S8 : (i : Input) → Turns r-up (turnings g s S8_rests i) (decided g s S8_rests i)
     turns_S8 (CharacterDown N) = third_letter (is_pair g.pairs K N) refl
       where
         third_letter : (b : Bool) → is_pair g.pairs K N ≡ b
-            → Turns r-up (at_and_late (parts_before m k) (some d-S8) (if b then d-S8 ∷ [] else [])) (decided g s S8-rests (CharacterDown N))
+            → Turns r-up (at_and_late (parts_before m k) (some d_S8) (if b then d_S8 ∷ [] else [])) (decided g s S8_rests (CharacterDown N))
         third_letter true h =
-            by_both g s S8-rests (CharacterDown N) d-S8 refl (parts_before m k) (plain M leaving S7 K (at 0) N (at 0))
-            (together g M K leaving S2 N (at 0)) (d-S8 ∷ [])
+            by_both g s S8_rests (CharacterDown N) d_S8 refl (parts_before m k) (plain M leaving S7 K (at 0) N (at 0))
+            (together g M K leaving S2 N (at 0)) (d_S8 ∷ [])
             (λ t b. rw (parted_before (lag m k) k t b, h))
             (λ t b. rw (stays_from (lag m k) k t b))
             (leave_another _ _ refl) (commit_another _ _ refl)
-            (λ j. late_first (CharacterDown N) d-S8 (plain M leaving S7 K (at 0) N (at 0)) refl j
+            (λ j. late_first (CharacterDown N) d_S8 (plain M leaving S7 K (at 0) N (at 0)) refl j
             (λ t b. rw (parted_before (lag m k) k t b, h)) (leave_another _ _ refl))
         third_letter false h =
-            by_both g s S8-rests (CharacterDown N) d-S8 refl (parts_before m k) ((plain M ++ plain K) leaving S2 N (at 0))
+            by_both g s S8_rests (CharacterDown N) d_S8 refl (parts_before m k) ((plain M ++ plain K) leaving S2 N (at 0))
             (together g M K leaving S2 N (at 0)) []
             (λ t b. rw (parted_before (lag m k) k t b, h))
             (λ t b. rw (stays_from (lag m k) k t b))
             (commit_another _ _ refl) (commit_another _ _ refl)
-            (λ j. parted_anyway (CharacterDown N) d-S8 refl j (λ t b. rw (parted_before (lag m k) k t b, h)))
+            (λ j. parted_anyway (CharacterDown N) d_S8 refl j (λ t b. rw (parted_before (lag m k) k t b, h)))
     turns_S8 (CharacterUp N) =
         by_cases (same_key N K)
-        (λ h. by_stamp g s S8-rests (CharacterUp N) _ refl (share_before s.l k r-up) (together g M K leaving S1)
+        (λ h. by_stamp g s S8_rests (CharacterUp N) _ refl (share_before s.l k r-up) (together g M K leaving S1)
         (λ t f b d. rw (h, not_short_of_before s r (lag k r-up) k t b))
         (λ t f b. rw (h, short_of_from s r (lag k r-up) k t b))
         (commit_another _ _ refl))
-        (λ h. unmoved g s S8-rests (CharacterUp N) _ refl (λ t. rw h) refl)
+        (λ h. unmoved g s S8_rests (CharacterUp N) _ refl (λ t. rw h) refl)
     turns_S8 (ThumbDown P) =
-        by_both g s S8-rests (ThumbDown P) _ refl (parts_before m k) (plain M leaving S4 K (at 0) P (at 0))
+        by_both g s S8_rests (ThumbDown P) _ refl (parts_before m k) (plain M leaving S4 K (at 0) P (at 0))
         (together g M K leaving S3 P (at 0)) _
         (λ t b. rw (parted_before (lag m k) k t b))
         (λ t b. rw (stays_from (lag m k) k t b))
@@ -391,10 +391,10 @@ module _ (g : Lent) (s : Settings) where
         (λ h. late_first (ThumbDown P) _ (plain M leaving S4 K (at 0) P (at 0)) refl h (λ t b. rw (parted_before (lag m k) k t b))
         (leave_another _ _ refl))
     turns_S8 (ThumbUp P) =
-        unmoved g s S8-rests (ThumbUp P) _ refl (λ t. refl) refl
-    turns_S8 FunctionDown = by_deadline g s S8-rests FunctionDown _ refl (together g M K leaving S1) (λ t. refl) (commit_another _ _ refl)
+        unmoved g s S8_rests (ThumbUp P) _ refl (λ t. refl) refl
+    turns_S8 FunctionDown = by_deadline g s S8_rests FunctionDown _ refl (together g M K leaving S1) (λ t. refl) (commit_another _ _ refl)
     turns_S8 Tick =
-        unmoved g s S8-rests Tick _ refl (λ t. refl) refl
+        unmoved g s S8_rests Tick _ refl (λ t. refl) refl
 
 pub true_turnings : TrueTurnings
 true_turnings g good s in-r S1 i = turns_S1 g s i

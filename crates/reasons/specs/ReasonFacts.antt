@@ -54,8 +54,8 @@ pub record TrueTest (g : Lent) (s : Settings) (x : Resting) (i : Input) (t u : S
   pub same_test : comes_out (compared g s t x i) ≡ comes_out (compared g s u x i) → decided g s x i t ≡ decided g s x i u
   pub other_test : comes_out (compared g s t x i) ≡ true → comes_out (compared g s u x i) ≡ false → decided g s x i t ≢ decided g s x i u
 
-abbrev pub TrueTest : Type 0
-TrueTest =
+abbrev pub TrueTestStatement : Type 0
+TrueTestStatement =
     (g : Lent) (s : Settings) (x : Resting) (i : Input) (t u : Stamp) → due_by t (deadline g s x) ≡ false
     → due_by u (deadline g s x) ≡ false
     → TrueTest g s x i t u
@@ -93,8 +93,8 @@ pub record TrueMargins (g : Lent) (s : Settings) (now : Stamp) (x : Resting) (i 
   pub never_sooner : (reason g s now x i).sooner ≡ none → (k : ℕ) → (since x).0 ≤ (sooner now k).0
       → decided g s x i (sooner now k) ≡ decided g s x i now
 
-abbrev pub TrueMargins : Type 0
-TrueMargins =
+abbrev pub TrueMarginsStatement : Type 0
+TrueMarginsStatement =
     (g : Lent) → lent_good g ≡ true → (s : Settings) → in_range s ≡ true → (now : Stamp) (x : Resting) (i : Input)
     → (since x).0 ≤ now.0 → TrueMargins g s now x i
 
@@ -114,8 +114,8 @@ pub record TrueReasons (g : Lent) (m : Machine) (e : Event) : Type 0 where
   pub its_cause : TrueCause g m.settings e.stamp m.resting acts
   pub its_margins : TrueMargins g m.settings e.stamp m.resting acts
 
-abbrev pub TrueReasons : Type 0
-TrueReasons = (g : Lent) (m : Machine) (e : Event) → (step g m e).number ≡ 0 → TrueReasons g m e
+abbrev pub TrueReasonsStatement : Type 0
+TrueReasonsStatement = (g : Lent) (m : Machine) (e : Event) → (step g m e).number ≡ 0 → TrueReasons g m e
 
 -- The turning stamps at a machine, by an event's kind and key: events of the same kind and key that it accepts, at two stamps t and u.
 abbrev pub turnings_if : Lent → Machine → Option Input → List Stamp

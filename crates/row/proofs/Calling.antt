@@ -24,7 +24,7 @@ use denote.Triple.Spec.{triple_of}
 use denote.Triple.Statement.{Contract}
 use denote.Triple.Clauses.{ensured, lasts}
 use Rattle.row.specs.Views.{is_keyboard}
-use Rattle.row.specs.contracts.is_keyboard as is-keyboard'
+use Rattle.row.specs.contracts.is_keyboard as is_keyboard'
 
 -- What has come back is a value of the result's type, for which the contract's clause holds: the walk goes on with that value stored.
 module _ {M : Type 1} {𝓤 : Ura M} {𝓛 : Logic 𝓤} {Γ : List (Item 𝓤)} {C : Calls 𝓤 𝓛.H} {Λ : Loops 𝓤 𝓛.H}
@@ -45,20 +45,20 @@ module _ {M : Type 1} {𝓤 : Ura M} {𝓛 : Logic 𝓤} {Γ : List (Item 𝓤)}
 module _ {M : Type 1} {𝓤 : Ura M} (𝓛 : Logic 𝓤) (mem : Memory → SProp 𝓤) (run : Routine → Fun 𝓤) where
   -- the contract of `is_keyboard`, and its clause alone
   abbrev pub IsKeyboard : Contract 𝓤
-  IsKeyboard = triple_of 𝓛 is-keyboard'.signature (is-keyboard'.spec 𝓛 mem run)
+  IsKeyboard = triple_of 𝓛 is_keyboard'.signature (is_keyboard'.spec 𝓛 mem run)
 
   module _ (n i : ℕ) where
     pub is_keyboard_says : (r : Bool)
-        → ent 𝓤 (ensured 𝓛 is-keyboard'.ended (is-keyboard'.clauses 𝓛 mem run) tt (n, (i, tt)) tt r)
+        → ent 𝓤 (ensured 𝓛 is_keyboard'.ended (is_keyboard'.clauses 𝓛 mem run) tt (n, (i, tt)) tt r)
         (fact 𝓤 (r ≡ is_keyboard n i))
     is_keyboard_says r =
-        ex_e 𝓤 _ (λ ws. snd∗ 𝓤 (sem 𝓛 (lasts is-keyboard'.ended tt (n, (i, tt)) ws)) (fact 𝓤 (r ≡ is_keyboard n i)))
+        ex_e 𝓤 _ (λ ws. snd∗ 𝓤 (sem 𝓛 (lasts is_keyboard'.ended tt (n, (i, tt)) ws)) (fact 𝓤 (r ≡ is_keyboard n i)))
 
     -- what its triple binds outside, and what it asks
-    abbrev pub to-is-keyboard : IsKeyboard.Ghost
-    to-is-keyboard = ((tt, tt, tt, (n, (i, tt)), (vint w64 n ∷ [], (vint w64 i ∷ [], tt))), tt)
+    abbrev pub to_is_keyboard : IsKeyboard.Ghost
+    to_is_keyboard = ((tt, tt, tt, (n, (i, tt)), (vint w64 n ∷ [], (vint w64 i ∷ [], tt))), tt)
 
-    pub goes_is_keyboard : n < 2 ^ 64 → i < 2 ^ 64 → ent 𝓤 (sem 𝓛 ftrue) (IsKeyboard.pre to-is-keyboard)
+    pub goes_is_keyboard : n < 2 ^ 64 → i < 2 ^ 64 → ent 𝓤 (sem 𝓛 ftrue) (IsKeyboard.pre to_is_keyboard)
     goes_is_keyboard n-fits i-fits =
         qed 𝓛 (‵ ftrue ∷ []) ∵ nothing ! $
         owned ! usize (Is usize) (uint_Makes 𝓛 w64) i _ (refl, i-fits) $ fjoin ! $

@@ -23,7 +23,7 @@ use Rattle.row.specs.Views.{is_keyboard, Tells, TellsAt, Advances, asked_at}
 use Rattle.row.specs.declared.Told.{Told}
 use Rattle.row.specs.declared.Advanced.{Advanced}
 use Rattle.row.specs.declared.AskedAt.{AskedAt}
-use Rattle.row.specs.declared.AskedAt.TheVariants as asked-as
+use Rattle.row.specs.declared.AskedAt.TheVariants as asked_as
 use Rattle.row.proofs.Found.{stands_at, none_found, step_here, step_nowhere, asking_here, asking_nowhere}
 
 holds : (t : Bool) → T t → t ≡ true
@@ -87,5 +87,5 @@ module _ (row : List Machine) (k : ℕ) where
     pub tells_none : (e : Event) (r : Told) → Tells r 13 [] [] → TellsAt r (step_at g row k e) × (row ≡ (step_at g row k e).row)
     tells_none e r a = rw (step_nowhere row k g e (not_found f)) (a, refl)
 
-    pub asked_none : (now : Stamp) (r : AskedAt) → r ≡ asked-as.NoKeyboard → asked_at r ≡ asking_at g row k now
+    pub asked_none : (now : Stamp) (r : AskedAt) → r ≡ asked_as.NoKeyboard → asked_at r ≡ asking_at g row k now
     asked_none now r h = ap (λ (x : AskedAt). asked_at x) h ∙ sym (asking_nowhere row k g now (not_found f))

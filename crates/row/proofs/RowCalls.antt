@@ -12,7 +12,7 @@ use Rattle.rules.specs.Pairs.{Lent}
 use Rattle.rules.specs.States.{later, fresh, opening, opened}
 use Rattle.rules.specs.GivenBack.{Answer, step}
 use Rattle.rules.specs.Distance.{asking}
-use Rattle.rules.specs.Sequences.{along, state, accepted-events}
+use Rattle.rules.specs.Sequences.{along, state, accepted_events}
 use Rattle.rules.specs.MovedClock.{told_in}
 use Rattle.rules.specs.MovedClock as clock
 use Rattle.rules.specs.declared.Stamp.{Stamp}
@@ -38,7 +38,7 @@ use Rattle.row.specs.RowFacts.{Found}
 use Rattle.row.specs.RowRuns.{RowEvent, row_step, events_of}
 use Rattle.row.specs.RowCalls.{Called, CallsAt, RowCalls, no_more, call, HandedOn, no_call, handed, own_answer}
 use Rattle.row.specs.RowCalls.{answer_in, answers_of, machine_of}
-use Rattle.row.specs.RowCalls.{AsksAt, told_of, RowHandedOn, OwnCalls, IsolatedCalls, OfTheRow, ClockMovedAt, RowOfTheCode}
+use Rattle.row.specs.RowCalls.{AsksAt, told_of, RowHandedOn, OwnCalls, IsolatedCalls, OfTheRowStatement, ClockMovedAtStatement, RowOfTheCode}
 use Rattle.row.specs.declared.Told.{Told}
 use Rattle.row.specs.declared.AskedAt.{AskedAt}
 use Rattle.row.proofs.Found.{step_here, asking_here}
@@ -153,7 +153,7 @@ module _ (g : Lent) (k : ℕ) (s : Settings) (m : Machine) (xs : List RowEvent) 
       ap (map told_of) (calls_form g (own_calls g k m xs cs c)) ∙ told_along g m (events_of k xs)
       ∙ ap (λ (z : Machine). map packed_told (along g told_in z (events_of k xs))) begun.same_machine
 
-of_the_row : OfTheRow
+of_the_row : OfTheRowStatement
 of_the_row g k s m xs cs is_opened c =
     let run = code g k s m xs cs is_opened c in
     record {
@@ -166,12 +166,12 @@ of_the_row g k s m xs cs is_opened c =
           rw at ((last_accepted g good s run.settings_in_range (events_of k xs)).gives_5 e);
     }
 
-clock_moved_at : ClockMovedAt
+clock_moved_at : ClockMovedAtStatement
 clock_moved_at g d k j s m xs ys cs ds is_opened c c' moved stay =
     let before = code g k s m xs cs is_opened c in
     let later_on = code g j s m ys ds is_opened c' in
     let both = clock_moved g d s (events_of k xs) stay in
-    let accepted = accepted-events g s (events_of k xs) in
+    let accepted = accepted_events g s (events_of k xs) in
     record {
       same_told = told_are g j s m ys ds is_opened c' ∙ ap (λ (es : List Event). map packed_told (clock.all_told g s es)) moved
           ∙ ap (map packed_told) both.same_answers ∙ sym (told_are g k s m xs cs is_opened c);

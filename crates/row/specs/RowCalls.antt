@@ -9,7 +9,7 @@ use Rattle.rules.specs.Pairs.{Lent, lent_good}
 use Rattle.rules.specs.States.{later, opening, opened}
 use Rattle.rules.specs.Refusals.{NotAllowed, AboveLargest}
 use Rattle.rules.specs.Distance.{asking}
-use Rattle.rules.specs.Sequences.{state, accepted-events}
+use Rattle.rules.specs.Sequences.{state, accepted_events}
 use Rattle.rules.specs.MovedClock.{moved_events, moved_state, Stays, AllStay, last_stamp}
 use Rattle.rules.specs.declared.Stamp.{Stamp}
 use Rattle.rules.specs.declared.Settings.{Settings}
@@ -118,10 +118,10 @@ pub record OfTheRow (g : Lent) (k : ℕ) (s : Settings) (m : Machine) (xs : List
   pub own_last_stamp : lent_good g ≡ true → (row : List Machine) (e : Event) (t : Told) → Found row k (machine_of k m xs cs)
       → TellsAt t (step_at g row k e)
       → t.number ≡ 5
-      ↔ ((¬ NotAllowed e) × (¬ AboveLargest e) × (e.stamp.0 < (last_stamp (accepted-events g s (events_of k xs))).0))
+      ↔ ((¬ NotAllowed e) × (¬ AboveLargest e) × (e.stamp.0 < (last_stamp (accepted_events g s (events_of k xs))).0))
 
-abbrev pub OfTheRow : Type 1
-OfTheRow =
+abbrev pub OfTheRowStatement : Type 1
+OfTheRowStatement =
     (g : Lent) (k : ℕ) (s : Settings) (m : Machine) (xs : List RowEvent) (cs : List Called)
     → opened (Ready m) ≡ opening s → RowCalls g k m xs cs
     → OfTheRow g k s m xs cs
@@ -134,13 +134,13 @@ told_of r = record { number = r.number; items = r.items; sendings = r.sendings }
 -- get what they will.
 pub record ClockMovedAt (g : Lent) (d k j : ℕ) (s : Settings) (m : Machine) (xs ys : List RowEvent) (cs ds : List Called) : Type 0 where
   pub same_told : map told_of (answers_of j ys ds) ≡ map told_of (answers_of k xs cs)
-  pub machine_moved : machine_of j m ys ds ≡ moved_state d (accepted-events g s (events_of k xs)) (machine_of k m xs cs)
+  pub machine_moved : machine_of j m ys ds ≡ moved_state d (accepted_events g s (events_of k xs)) (machine_of k m xs cs)
   pub same_asked : (now : Stamp) → Stays d now → (r o : AskedAt)
       → AsksAt g k (machine_of k m xs cs) now r → AsksAt g j (machine_of j m ys ds) (later now d) o
       → asked_at o ≡ asked_at r
 
-abbrev pub ClockMovedAt : Type 0
-ClockMovedAt =
+abbrev pub ClockMovedAtStatement : Type 0
+ClockMovedAtStatement =
     (g : Lent) (d k j : ℕ) (s : Settings) (m : Machine) (xs ys : List RowEvent) (cs ds : List Called)
     → opened (Ready m) ≡ opening s → RowCalls g k m xs cs → RowCalls g j m ys ds
     → events_of j ys ≡ moved_events d (events_of k xs) → AllStay d (events_of k xs)
@@ -151,5 +151,5 @@ pub record RowOfTheCode : Type 1 where
   pub row_handed_on : RowHandedOn
   pub own_calls : OwnCalls
   pub isolated_calls : IsolatedCalls
-  pub of_the_row : OfTheRow
-  pub clock_moved_at : ClockMovedAt
+  pub of_the_row : OfTheRowStatement
+  pub clock_moved_at : ClockMovedAtStatement

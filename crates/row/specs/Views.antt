@@ -11,7 +11,7 @@ use Rattle.row.specs.Row.{most_keyboards, RowAnswer}
 use Rattle.row.specs.declared.Told.{Told}
 use Rattle.row.specs.declared.Advanced.{Advanced}
 use Rattle.row.specs.declared.AskedAt.{AskedAt}
-use Rattle.row.specs.declared.AskedAt.TheVariants as asked-as
+use Rattle.row.specs.declared.AskedAt.TheVariants as asked_as
 
 -- a row of n is not above 16, and k is not past it
 unfoldable pub is_keyboard : ℕ → ℕ → Bool
@@ -34,5 +34,5 @@ pub record Advances (r : Advanced) (a : Answer) : Type 0 where
 
 -- the number given back, and the distance if there is a deadline
 abbrev pub asked_at : AskedAt → Asking
-asked_at asked-as.NoKeyboard = not_answered 13
-asked_at (asked-as.Of a) = asked a
+asked_at asked_as.NoKeyboard = not_answered 13
+asked_at (asked_as.Of a) = asked a

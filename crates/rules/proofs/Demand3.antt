@@ -12,7 +12,7 @@ use Rattle.rules.specs.OneEvent.{Done}
 use Rattle.rules.specs.ZeroDelay.{backspace}
 use Rattle.rules.specs.GivenBack.{Answer, step}
 use Rattle.rules.specs.Sequences.{after, Press, keys_of, characters, waiting, typed, state, presses, items, Committed, line}
-use Rattle.rules.specs.Demand3.{Demand3, KeysInOrder, with_event, CommittedInTime, tick}
+use Rattle.rules.specs.Demand3.{Demand3Statement, KeysInOrder, with_event, CommittedInTime, tick}
 use Rattle.rules.specs.Demand3.{TicksDoNotMatter, ScreenIsLine, NoBackspaceTakesCommitted}
 use Rattle.rules.specs.declared.Stamp.{Stamp}
 use Rattle.rules.specs.declared.Settings.{Settings}
@@ -105,7 +105,7 @@ no_backspace_takes_committed g s es upto rest e _ sent-before sent-behind h =
       no_sign_before = harmless.no_sign_before;
     }
 
-pub demand_3 : Demand3
+pub demand_3 : Demand3Statement
 demand_3 g s r es =
     record {
       keys_in_order = keys_in_order g s r es;

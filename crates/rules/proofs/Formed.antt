@@ -15,7 +15,7 @@ use Rattle.rules.specs.OneEvent.{one_event}
 use Rattle.rules.specs.GivenBack.{acts_as, held_after, Answer, step}
 use Rattle.rules.specs.Sequences.{after, state}
 use Rattle.rules.specs.StepFacts.{StaysFormed}
-use Rattle.rules.specs.SequenceFacts.{SequenceFacts}
+use Rattle.rules.specs.SequenceFacts.{SequenceFactsStatement}
 use Rattle.rules.specs.declared.Stamp.{Stamp}
 use Rattle.rules.specs.declared.Settings.{Settings}
 use Rattle.rules.specs.declared.Resting.{Resting}
@@ -144,7 +144,7 @@ fresh_formed : (g : Lent) (s : Settings) → in_range s ≡ true → well_formed
 unfolding well_formed
 fresh_formed g s r = rw (r, formed_test 0 empty_formed)
 
-pub sequence_facts : SequenceFacts
+pub sequence_facts : SequenceFactsStatement
 sequence_facts g s r es =
     let formed : well_formed g (state g s es) ≡ true = after_formed g (fresh s) es ∙ fresh_formed g s r in
     record {

@@ -12,7 +12,7 @@ use Rattle.rules.specs.Pairs.{Lent, lent_good}
 use Rattle.rules.specs.States.{at, fresh, at_or_before, keys_below, stamps_by, in_order, pair_lent, well_formed}
 use Rattle.rules.specs.GivenBack.{with_thumb, input, acts_as, held_after, Verdict, accepted, is_new}
 use Rattle.rules.specs.GivenBack.{judge_input, judge, Answer, answer, step_with, step}
-use Rattle.rules.specs.Sequences.{after, along, accepted_in, state, accepted-events}
+use Rattle.rules.specs.Sequences.{after, along, accepted_in, state, accepted_events}
 use Rattle.rules.specs.Demand3.{tick}
 use Rattle.rules.specs.DistanceFacts.{only_time_passes}
 use Rattle.rules.specs.HeldRules.{down, up, ActsAsTick, holding, answer_holding, SetNotRead, held_then}
@@ -149,5 +149,5 @@ held_in_sequences g s r es =
     record {
       at_most_6 = ((formed_exactly h).0 (formed_test h n.formed)).1;
       waiting_is_held = waits_held g (fresh s) tt es;
-      held_as_accepted = λ k. held_along g k (fresh s) es ∙ ap (held_through k (accepted-events g s es)) (none_held k);
+      held_as_accepted = λ k. held_along g k (fresh s) es ∙ ap (held_through k (accepted_events g s es)) (none_held k);
     }

@@ -6,7 +6,7 @@ use Rattle.rules.specs.Pairs.{Lent}
 use Rattle.rules.specs.States.{fresh}
 use Rattle.rules.specs.GivenBack.{Answer, step}
 use Rattle.rules.specs.Sequences.{after, along, accepted_in, state}
-use Rattle.rules.specs.MovedClock.{last_stamp, LastAccepted}
+use Rattle.rules.specs.MovedClock.{last_stamp, LastAcceptedStatement}
 use Rattle.rules.specs.declared.Settings.{Settings}
 use Rattle.rules.specs.declared.Machine.{Machine}
 use Rattle.rules.specs.declared.Event.{Event}
@@ -48,7 +48,7 @@ module _ (g : Lent) (s : Settings) where
   last_counted nothing_yet = refl
   last_counted (behind done e z) = z ∙ sym (last_of done e)
 
-pub last_accepted : LastAccepted
+pub last_accepted : LastAcceptedStatement
 last_accepted g good s r es =
     let c = counts_along g s nothing_yet es in
     let formed = (sequence_facts g s r es).stays_well_formed in

@@ -7,7 +7,7 @@ use mathlib.Core.Logic.{◌≢◌}
 use mathlib.Core.Path.{◌≡◌, refl}
 use Rattle.rules.specs.Numbers.{A, B, FJ, FL, D, X, W}
 use Rattle.rules.specs.Pairs.{Pair, Lent, if_any, P, X_pairs, W_pairs, longest}
-use Rattle.rules.specs.PairFacts.{LongestWait}
+use Rattle.rules.specs.PairFacts.{LongestWaitStatement}
 use Rattle.rules.specs.declared.Settings.{Settings}
 use Rattle.rules.proofs.Tests.{InRange, range_bounds}
 use Rattle.rules.proofs.Bounds.{FJ_mono}
@@ -36,7 +36,7 @@ from_numbers : (g h : Lent) (s u : Settings) → h.t_s ≡ g.t_s → h.n ≡ g.n
 unfolding W_pairs X_pairs D A B FJ FL P
 from_numbers g h s u t_s n t j l = rw (t_s, n, t, j, l)
 
-pub longest_wait : LongestWait
+pub longest_wait : LongestWaitStatement
 unfolding longest
 longest_wait g s r =
     record {

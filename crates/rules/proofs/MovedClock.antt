@@ -21,7 +21,7 @@ use Rattle.rules.specs.GivenBack.{judge, Answer, refusal, acceptance, answer, st
 use Rattle.rules.specs.Sequences.{after, along, accepted_in, waiting}
 use Rattle.rules.specs.Distance.{distance_to, asking_with, asking}
 use Rattle.rules.specs.MovedClock.{moved_event, moved_events, moved_resting, moved_machine, moved_state, Stays}
-use Rattle.rules.specs.MovedClock.{AllStay, told, told_in, ClockMoved, moved_answer, MachineMoved}
+use Rattle.rules.specs.MovedClock.{AllStay, told, told_in, ClockMovedStatement, moved_answer, MachineMovedStatement}
 use Rattle.rules.specs.declared.Stamp.{Stamp}
 use Rattle.rules.specs.declared.Key.{Key}
 use Rattle.rules.specs.declared.Thumb.{Thumb}
@@ -66,29 +66,29 @@ module _ (g : Lent) (k : ℕ) where
 
   -- What rests.
 
-  abbrev moved-deadline : Option Stamp → Option Stamp
-  moved-deadline none = none
-  moved-deadline (some d) = some (later d k)
+  abbrev moved_deadline : Option Stamp → Option Stamp
+  moved_deadline none = none
+  moved_deadline (some d) = some (later d k)
 
-  later_moved : (a : Stamp) (x : ℕ) → some (later (later a k) x) ≡ moved-deadline (some (later a x))
+  later_moved : (a : Stamp) (x : ℕ) → some (later (later a k) x) ≡ moved_deadline (some (later a x))
   later_moved a x = ap (λ (n : ℕ). some (at n)) (omega arith)
 
-  deadline_moved : (s : Settings) (y : Resting) → deadline g s (moved_resting k y) ≡ moved-deadline (deadline g s y)
+  deadline_moved : (s : Settings) (y : Resting) → deadline g s (moved_resting k y) ≡ moved_deadline (deadline g s y)
   deadline_moved s S1 = refl
   deadline_moved s (S2 M m) = later_moved m (alone g s M)
   deadline_moved s (S3 O o) =
-      two_ways (λ (c d : Option Stamp). c ≡ moved-deadline d) {t = eqb s.solo 1} refl (later_moved o (B s)) refl
+      two_ways (λ (c d : Option Stamp). c ≡ moved_deadline d) {t = eqb s.solo 1} refl (later_moved o (B s)) refl
   deadline_moved s (S4 M m O o) = rw (lag_moved m o) (later_moved o (FJ s (lag m o)))
   deadline_moved s (S5 O o M m) = rw (lag_moved o m) (later_moved m _)
   deadline_moved s (S6 O o M m r) = rw (lag_moved m r) (later_moved r (lag m r))
   deadline_moved s (S7 M m K j) = later_moved j g.t_s
   deadline_moved s (S8 M m K j r) = rw (lag_moved j r) (later_moved r (GN g.n (lag j r)))
 
-  due_moved : (now : Stamp) (d : Option Stamp) → due_by (later now k) (moved-deadline d) ≡ due_by now d
+  due_moved : (now : Stamp) (d : Option Stamp) → due_by (later now k) (moved_deadline d) ≡ due_by now d
   due_moved now none = refl
   due_moved now (some d) = leb_moved k d.0 now.0
 
-  distance_moved : (now : Stamp) (d : Option Stamp) → distance_to (later now k) (moved-deadline d) ≡ distance_to now d
+  distance_moved : (now : Stamp) (d : Option Stamp) → distance_to (later now k) (moved_deadline d) ≡ distance_to now d
   distance_moved now none = refl
   distance_moved now (some d) =
       let less : d.0 + k - (now.0 + k) ≡ d.0 - now.0 = omega arith in
@@ -149,14 +149,14 @@ module _ (g : Lent) (k : ℕ) where
 
   -- What a rule does.
 
-  abbrev moved-done : Done → Done
-  moved-done d = d.items leaving moved_resting k d.resting
+  abbrev moved_done : Done → Done
+  moved_done d = d.items leaving moved_resting k d.resting
 
   -- what it does at moved stamps is what it did, moved
   abbrev Moves : Done → Done → Type 0
-  Moves d e = d ≡ moved-done e
+  Moves d e = d ≡ moved_done e
 
-  late_moved : (s : Settings) (y : Resting) → late g s (moved_resting k y) ≡ moved-done (late g s y)
+  late_moved : (s : Settings) (y : Resting) → late g s (moved_resting k y) ≡ moved_done (late g s y)
   late_moved s S1 = refl
   late_moved s (S2 M m) = refl
   late_moved s (S3 O o) = refl
@@ -167,16 +167,16 @@ module _ (g : Lent) (k : ℕ) where
   late_moved s (S8 M m K j r) = refl
 
   third_moved : (now : Stamp) (M : Key) (m : Stamp) (K : Key) (j : Stamp) (N : Key)
-      → third g (later now k) M (later m k) K (later j k) N ≡ moved-done (third g now M m K j N)
+      → third g (later now k) M (later m k) K (later j k) N ≡ moved_done (third g now M m K j N)
   third_moved now M m K j N =
       two_ways Moves (ap₂ pair_stays (lag_moved m j) (lag_moved j now)) refl (two_ways Moves {t = is_pair g.pairs K N} refl refl refl)
 
   third_thumb_moved : (now : Stamp) (M : Key) (m : Stamp) (K : Key) (j : Stamp) (P : Thumb)
-      → third_thumb g (later now k) M (later m k) K (later j k) P ≡ moved-done (third_thumb g now M m K j P)
+      → third_thumb g (later now k) M (later m k) K (later j k) P ≡ moved_done (third_thumb g now M m K j P)
   third_thumb_moved now M m K j P = two_ways Moves (ap₂ pair_stays (lag_moved m j) (lag_moved j now)) refl refl
 
   act_moved : (s : Settings) (now : Stamp) (y : Resting) (i : Input)
-      → act g s (later now k) (moved_resting k y) i ≡ moved-done (act g s now y i)
+      → act g s (later now k) (moved_resting k y) i ≡ moved_done (act g s now y i)
   act_moved s now S1 (CharacterDown N) = refl
   act_moved s now S1 (CharacterUp N) = refl
   act_moved s now S1 (ThumbDown P) = refl
@@ -242,12 +242,12 @@ module _ (g : Lent) (k : ℕ) where
   act_moved s now (S8 M m K j r) Tick = refl
 
   -- one rule after the other
-  and_then_moved : (d : Done) (f h : Resting → Done) → ((y : Resting) → f (moved_resting k y) ≡ moved-done (h y))
-      → and_then (moved-done d) f ≡ moved-done (and_then d h)
+  and_then_moved : (d : Done) (f h : Resting → Done) → ((y : Resting) → f (moved_resting k y) ≡ moved_done (h y))
+      → and_then (moved_done d) f ≡ moved_done (and_then d h)
   and_then_moved d f h e = ap (λ (c : Done). (d.items ++ c.items) leaving c.resting) (e d.resting)
 
   settle_in_moved : (n : ℕ) (s : Settings) (now : Stamp) (y : Resting)
-      → settle_in n g s (later now k) (moved_resting k y) ≡ moved-done (settle_in n g s now y)
+      → settle_in n g s (later now k) (moved_resting k y) ≡ moved_done (settle_in n g s now y)
   unfolding settle_in
   settle_in_moved zero s now y = refl
   settle_in_moved (suc n) s now y =
@@ -257,7 +257,7 @@ module _ (g : Lent) (k : ℕ) where
       refl
 
   one_event_moved : (s : Settings) (now : Stamp) (y : Resting) (i : Input)
-      → one_event g s (later now k) (moved_resting k y) i ≡ moved-done (one_event g s now y i)
+      → one_event g s (later now k) (moved_resting k y) i ≡ moved_done (one_event g s now y i)
   unfolding one_event settle
   one_event_moved s now y i =
       ap (λ (d : Done). and_then d (λ z. act g s (later now k) z i)) (settle_in_moved 2 s now y)
@@ -266,8 +266,8 @@ module _ (g : Lent) (k : ℕ) where
   -- One event.
 
   -- a machine whose last stamp is not moved with it
-  abbrev moved-but : Stamp → Machine → Machine
-  moved-but l m = record { settings = m.settings; resting = moved_resting k m.resting; last = l; held = m.held }
+  abbrev moved_but : Stamp → Machine → Machine
+  moved_but l m = record { settings = m.settings; resting = moved_resting k m.resting; last = l; held = m.held }
 
   formed_moved : (m : Machine) → Stays k m.last → well_formed g (moved_machine k m) ≡ well_formed g m
   unfolding well_formed
@@ -281,7 +281,7 @@ module _ (g : Lent) (k : ℕ) where
       )
 
   acceptance_moved : (m : Machine) (l t : Stamp) (h : ℕ) (d : Done)
-      → acceptance (moved-but l m) (later t k) h (moved-done d) ≡ moved_answer k (acceptance m t h d)
+      → acceptance (moved_but l m) (later t k) h (moved_done d) ≡ moved_answer k (acceptance m t h d)
   acceptance_moved m l t h d = rw (shown_moved m.resting, shown_moved d.resting)
 
   -- Two machines answer alike: both refuse, or both accept.
@@ -291,22 +291,22 @@ module _ (g : Lent) (k : ℕ) where
 
   -- They do, if both are well formed or neither is, and if both find the event too old or neither does.
   module _ (m : Machine) (l : Stamp) (e : Event) (stays : Stays k e.stamp)
-      (formed : well_formed g (moved-but l m) ≡ well_formed g m)
+      (formed : well_formed g (moved_but l m) ≡ well_formed g m)
       (order : ltb (e.stamp.0 + k) l.0 ≡ ltb e.stamp.0 m.last.0) where
-    judge_moved : judge g (moved-but l m) (moved_event k e) ≡ judge g m e
+    judge_moved : judge g (moved_but l m) (moved_event k e) ≡ judge g m e
     unfolding judge is_new
     judge_moved = rw formed (ap (λ (v : Verdict). if well_formed g m then v else refused 2) (go (input e.kind e.key)))
       where
-        go : (i : Option Input) → judge_input (moved-but l m) (moved_event k e) i ≡ judge_input m e i
+        go : (i : Option Input) → judge_input (moved_but l m) (moved_event k e) i ≡ judge_input m e i
         go none = refl
         go (some i) = rw (above_moved k e.stamp stays, order)
 
-    step_alike : Alike m (moved-but l m) (step g m e) (step g (moved-but l m) (moved_event k e))
+    step_alike : Alike m (moved_but l m) (step g m e) (step g (moved_but l m) (moved_event k e))
     unfolding step step_with
     step_alike =
         either (lent_good g)
         (λ good. rw (good, judge_moved)
-        (judge_cases (λ (v : Verdict). Alike m (moved-but l m) (answer g m e.stamp v) (answer g (moved-but l m) (later e.stamp k) v))
+        (judge_cases (λ (v : Verdict). Alike m (moved_but l m) (answer g m e.stamp v) (answer g (moved_but l m) (later e.stamp k) v))
         g m e good
         (λ j z. both_refused z)
         (λ i a.
@@ -403,11 +403,11 @@ module _ (g : Lent) (k : ℕ) where
         by (S7 M m K j) = refl
         by (S8 M m K j r) = refl
 
-pub clock_moved : ClockMoved
+pub clock_moved : ClockMovedStatement
 clock_moved g k s es stay =
     let run = run_moved g k s both_fresh es stay in
     record { same_answers = run.0; states_moved = states_equal g k s run.1; same_distance = asking_alike g k s run.1 }
 
-pub machine_moved : MachineMoved
+pub machine_moved : MachineMovedStatement
 machine_moved g k m h =
     record { step_moved = λ e stays. alike_moved g k m (machine_alike g k m h e stays); asking_moved = machine_asking g k m h }

@@ -6,7 +6,7 @@ use Rattle.rules.specs.Pairs.{Lent, longest}
 use Rattle.rules.specs.ZeroDelay.{shown, Sending, backspace}
 use Rattle.rules.specs.GivenBack.{step}
 use Rattle.rules.specs.Sequences.{Press, keys_of, characters, waiting, typed, signs_among, state}
-use Rattle.rules.specs.Sequences.{presses, accepted-key-events, items, Committed, line, screen}
+use Rattle.rules.specs.Sequences.{presses, accepted_key_events, items, Committed, line, screen}
 use Rattle.rules.specs.declared.Stamp.{Stamp}
 use Rattle.rules.specs.declared.Settings.{Settings}
 use Rattle.rules.specs.declared.Event.{Event}
@@ -44,7 +44,7 @@ pub record SameText (g : Lent) (s : Settings) (es other : List Event) (t : Stamp
 abbrev pub TicksDoNotMatter : Lent → Settings → List Event → Type 0
 TicksDoNotMatter g s es =
     (other : List Event) (t : Stamp)
-    → accepted-key-events g s es ≡ accepted-key-events g s other
+    → accepted_key_events g s es ≡ accepted_key_events g s other
     → (step g (state g s es) (tick t)).number ≡ 0
     → (step g (state g s other) (tick t)).number ≡ 0
     → SameText g s es other t
@@ -80,5 +80,5 @@ pub record Demand3 (g : Lent) (s : Settings) (es : List Event) : Type 0 where
   pub no_backspace_takes_committed : NoBackspaceTakesCommitted g s es
 
 -- the statement
-abbrev pub Demand3 : Type 0
-Demand3 = (g : Lent) (s : Settings) → in_range s ≡ true → (es : List Event) → Demand3 g s es
+abbrev pub Demand3Statement : Type 0
+Demand3Statement = (g : Lent) (s : Settings) → in_range s ≡ true → (es : List Event) → Demand3 g s es

@@ -5,7 +5,7 @@ use Rattle.rules.specs.Numbers.{keys, most_held, in_range}
 use Rattle.rules.specs.Held.{is_held, held_keys, held_formed}
 use Rattle.rules.specs.Pairs.{Lent, same_key}
 use Rattle.rules.specs.GivenBack.{Answer, step}
-use Rattle.rules.specs.Sequences.{Press, press, state, accepted-events}
+use Rattle.rules.specs.Sequences.{Press, press, state, accepted_events}
 use Rattle.rules.specs.Demand3.{tick}
 use Rattle.rules.specs.DistanceFacts.{only_time_passes}
 use Rattle.rules.specs.declared.Stamp.{Stamp}
@@ -83,7 +83,7 @@ not_released (S8 M m K k r) = press K k ∷ []
 pub record HeldInSequence (g : Lent) (s : Settings) (es : List Event) : Type 0 where
   pub at_most_6 : length (held_keys (state g s es).held) ≤ most_held
   pub waiting_is_held : AllHeld (state g s es).held (not_released (state g s es).resting)
-  pub held_as_accepted : (k : Key) → is_held (state g s es).held k ≡ held_through k (accepted-events g s es) false
+  pub held_as_accepted : (k : Key) → is_held (state g s es).held k ≡ held_through k (accepted_events g s es) false
 
 abbrev pub HeldInSequences : Type 0
 HeldInSequences = (g : Lent) (s : Settings) → in_range s ≡ true → (es : List Event) → HeldInSequence g s es

@@ -1,7 +1,7 @@
 -- Document 01, "The layout": thirty-one keys, three faces each.
 use Rattle.std.specs.Prelude.{ℕ, List, [], ◌∷◌, ◌++◌, eqb, get_or}
 use Prim.Native.Char.{Char, code}
-use Prim.Native.String.{String, [] as end-of-text, ◌∷◌ as ◌followed-by◌}
+use Prim.Native.String.{String, [] as end_of_text, ◌∷◌ as ◌followed_by◌}
 use Rattle.choice.specs.Choice.{if◌then◌else◌}
 use Rattle.rules.specs.declared.Key.{Key}
 use Rattle.rules.specs.declared.Thumb.TheVariants.{Left, Right}
@@ -39,7 +39,7 @@ abbrev pub code_or_0 : Char → ℕ
 code_or_0 c = if eqb (code c) (code "-") then 0 else code c
 
 abbrev pub code_points : String → List ℕ
-code_points end-of-text = []
+code_points end_of_text = []
 code_points (c followed_by t) = code_or_0 c ∷ code_points t
 
 -- the code points of one face, key 0 first

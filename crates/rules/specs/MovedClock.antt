@@ -7,7 +7,7 @@ use Rattle.rules.specs.States.{at, later, fresh}
 use Rattle.rules.specs.ZeroDelay.{Sending}
 use Rattle.rules.specs.GivenBack.{Answer, step}
 use Rattle.rules.specs.Refusals.{NotAllowed, AboveLargest}
-use Rattle.rules.specs.Sequences.{along, state, accepted-events}
+use Rattle.rules.specs.Sequences.{along, state, accepted_events}
 use Rattle.rules.specs.Distance.{asking}
 use Rattle.rules.specs.declared.Stamp.{Stamp}
 use Rattle.rules.specs.declared.Settings.{Settings}
@@ -78,13 +78,13 @@ pub record ClockMoved (g : Lent) (k : ℕ) (s : Settings) (es : List Event) : Ty
   -- at each event the same number, items and sendings
   pub same_answers : all_told g s (moved_events k es) ≡ all_told g s es
   -- the same state but for its stamps
-  pub states_moved : state g s (moved_events k es) ≡ moved_state k (accepted-events g s es) (state g s es)
+  pub states_moved : state g s (moved_events k es) ≡ moved_state k (accepted_events g s es) (state g s es)
   -- asked at a stamp that moves too: the same number and the same signed distance
   pub same_distance : (now : Stamp) → Stays k now → asking g (state g s (moved_events k es)) (later now k) ≡ asking g (state g s es) now
 
 -- the statement
-abbrev pub ClockMoved : Type 0
-ClockMoved = (g : Lent) (k : ℕ) (s : Settings) (es : List Event) → AllStay k es → ClockMoved g k s es
+abbrev pub ClockMovedStatement : Type 0
+ClockMovedStatement = (g : Lent) (k : ℕ) (s : Settings) (es : List Event) → AllStay k es → ClockMoved g k s es
 
 -- Of every machine, also one that no sequence leaves: with every stamp of it moved, its last one too, each event and each asking
 -- is answered as before, and leaves what it left before, moved.
@@ -96,8 +96,8 @@ pub record MachineMoved (g : Lent) (k : ℕ) (x : Machine) : Type 0 where
   pub step_moved : (e : Event) → Stays k e.stamp → step g (moved_machine k x) (moved_event k e) ≡ moved_answer k (step g x e)
   pub asking_moved : (now : Stamp) → Stays k now → asking g (moved_machine k x) (later now k) ≡ asking g x now
 
-abbrev pub MachineMoved : Type 0
-MachineMoved = (g : Lent) (k : ℕ) (x : Machine) → Stays k x.last → MachineMoved g k x
+abbrev pub MachineMovedStatement : Type 0
+MachineMovedStatement = (g : Lent) (k : ℕ) (x : Machine) → Stays k x.last → MachineMoved g k x
 
 -- What an event's stamp is compared with: the stamp of the last accepted event, or 0 if there is none, which nothing is before.
 abbrev pub last_stamp : List Event → Stamp
@@ -109,11 +109,11 @@ last_stamp (e ∷ (f ∷ es)) = last_stamp (f ∷ es)
 -- kept for every later one.
 pub record LastAccepted (g : Lent) (s : Settings) (es : List Event) : Type 0 where
   -- while nothing was accepted the state is the fresh one
-  pub still_fresh : accepted-events g s es ≡ [] → state g s es ≡ fresh s
-  pub last_is : (state g s es).last ≡ last_stamp (accepted-events g s es)
+  pub still_fresh : accepted_events g s es ≡ [] → state g s es ≡ fresh s
+  pub last_is : (state g s es).last ≡ last_stamp (accepted_events g s es)
   -- an event next to the sequence that no earlier check refuses is refused 5 exactly when its stamp is before that
   pub gives_5 : (e : Event) → (step g (state g s es) e).number ≡ 5
-      ↔ ((¬ NotAllowed e) × (¬ AboveLargest e) × (e.stamp.0 < (last_stamp (accepted-events g s es)).0))
+      ↔ ((¬ NotAllowed e) × (¬ AboveLargest e) × (e.stamp.0 < (last_stamp (accepted_events g s es)).0))
 
-abbrev pub LastAccepted : Type 0
-LastAccepted = (g : Lent) → lent_good g ≡ true → (s : Settings) → in_range s ≡ true → (es : List Event) → LastAccepted g s es
+abbrev pub LastAcceptedStatement : Type 0
+LastAcceptedStatement = (g : Lent) → lent_good g ≡ true → (s : Settings) → in_range s ≡ true → (es : List Event) → LastAccepted g s es

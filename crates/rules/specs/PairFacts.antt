@@ -78,8 +78,8 @@ pub record LongestWait (g : Lent) (s : Settings) : Type 0 where
   pub from_numbers : (h : Lent) (u : Settings) → h.t_s ≡ g.t_s → h.n ≡ g.n → u.t ≡ s.t → u.j ≡ s.j → u.l ≡ s.l
       → W_pairs h u ≡ W_pairs g s
 
-abbrev pub LongestWait : Type 0
-LongestWait = (g : Lent) (s : Settings) → in_range s ≡ true → LongestWait g s
+abbrev pub LongestWaitStatement : Type 0
+LongestWaitStatement = (g : Lent) (s : Settings) → in_range s ≡ true → LongestWait g s
 
 -- two keys and their character
 abbrev pub pair : ℕ → ℕ → ℕ → Pair

@@ -15,5 +15,5 @@ pub record SequenceFacts (g : Lent) (s : Settings) (es : List Event) : Type 0 wh
   pub never_refused_2 : (e : Event) → (step g (state g s es) e).number ≢ 2
 
 -- the statement
-abbrev pub SequenceFacts : Type 0
-SequenceFacts = (g : Lent) (s : Settings) → in_range s ≡ true → (es : List Event) → SequenceFacts g s es
+abbrev pub SequenceFactsStatement : Type 0
+SequenceFactsStatement = (g : Lent) (s : Settings) → in_range s ≡ true → (es : List Event) → SequenceFacts g s es

@@ -105,11 +105,11 @@ module _ (g : Lent) (s : Settings) (es : List Event) where
   abbrev pub presses : List Press
   presses = along g press_in (fresh s) es
 
-  abbrev pub accepted-events : List Event
-  accepted-events = along g accepted_in (fresh s) es
+  abbrev pub accepted_events : List Event
+  accepted_events = along g accepted_in (fresh s) es
 
-  abbrev pub accepted-key-events : List Event
-  accepted-key-events = along g key_event_in (fresh s) es
+  abbrev pub accepted_key_events : List Event
+  accepted_key_events = along g key_event_in (fresh s) es
 
   abbrev pub items : List Item
   items = along g items_in (fresh s) es

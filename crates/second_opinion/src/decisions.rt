@@ -168,7 +168,7 @@ fn from_released(
     requires at_le_n { at ≤ n }
     requires in_range { InRange release }
     ensures { Decides (from_place events.now n) n result
-        (opinions.from-released s thumb letter release (from_place events.now n at)) }
+        (opinions.from_released s thumb letter release (from_place events.now n at)) }
 {
     let due = released_due(letter, release);
     let seen = ahead(
@@ -193,7 +193,7 @@ fn letter_first(
 ) -> Decision
     requires { Small seen }
     ensures { (from : ListFrom) (n : ℕ) → InRange thumb → StandsThere from n seen
-        → Decides from n result (opinions.after (marks first) (opinions.letter-first s letter thumb (when due) (seen_list from seen))) }
+        → Decides from n result (opinions.after (marks first) (opinions.letter_first s letter thumb (when due) (seen_list from seen))) }
 {
     match seen {
         Seen::End => Decision::Over(only(first), EarlierPress::Press(letter)),
@@ -222,7 +222,7 @@ fn from_letter_first(
     requires at_le_n { at ≤ n }
     requires in_range { InRange thumb }
     ensures { Decides (from_place events.now n) n result
-        (opinions.after (marks first) (opinions.from-letter-first s letter thumb (from_place events.now n at))) }
+        (opinions.after (marks first) (opinions.from_letter_first s letter thumb (from_place events.now n at))) }
 {
     let due = letter_first_due(s, letter, thumb);
     let seen = ahead(
@@ -249,7 +249,7 @@ fn thumb_first(
     requires ready { Ready s events.now n }
     requires stands_there { StandsThere (from_place events.now n) n seen }
     ensures { Decides (from_place events.now n) n result
-        (opinions.thumb-first s thumb letter (when due) (seen_list (from_place events.now n) seen)) }
+        (opinions.thumb_first s thumb letter (when due) (seen_list (from_place events.now n) seen)) }
 {
     match seen {
         Seen::End => Decision::Over(Items::None, EarlierPress::Press(letter)),
@@ -277,7 +277,7 @@ fn from_thumb_first(
     requires at_le_n { at ≤ n }
     requires in_range { InRange letter }
     ensures { Decides (from_place events.now n) n result
-        (opinions.from-thumb-first s thumb letter (from_place events.now n at)) }
+        (opinions.from_thumb_first s thumb letter (from_place events.now n at)) }
 {
     let due = thumb_first_due(s, thumb, letter);
     let seen = ahead(
@@ -303,7 +303,7 @@ fn letter_alone(
     requires ready { Ready s events.now n }
     requires stands_there { StandsThere (from_place events.now n) n seen }
     ensures { Decides (from_place events.now n) n result
-        (opinions.letter-alone s letter (when due) (seen_list (from_place events.now n) seen)) }
+        (opinions.letter_alone s letter (when due) (seen_list (from_place events.now n) seen)) }
 {
     match seen {
         Seen::End => Decision::Over(Items::None, EarlierPress::Press(letter)),
@@ -321,7 +321,7 @@ fn from_letter(s: Settings, events: &[u8], n: usize, letter: Event, at: usize) -
     requires at_le_n { at ≤ n }
     requires in_range { InRange letter }
     ensures { Decides (from_place events.now n) n result
-        (opinions.from-letter s letter (from_place events.now n at)) }
+        (opinions.from_letter s letter (from_place events.now n at)) }
 {
     let due = letter_due(s, letter);
     let seen = ahead(
@@ -340,7 +340,7 @@ fn thumb_alone(s: Settings, events: &[u8], n: usize, thumb: Event, due: Due, see
     requires ready { Ready s events.now n }
     requires stands_there { StandsThere (from_place events.now n) n seen }
     ensures { Decides (from_place events.now n) n result
-        (opinions.thumb-alone s thumb (when due) (seen_list (from_place events.now n) seen)) }
+        (opinions.thumb_alone s thumb (when due) (seen_list (from_place events.now n) seen)) }
 {
     match seen {
         Seen::End => Decision::Over(Items::None, EarlierPress::None),

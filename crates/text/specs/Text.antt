@@ -1,7 +1,7 @@
 -- Document 01, section "Log": the line as the program prints it, marks as `<L>` and `<R>`, in UTF-8.
 use Rattle.std.specs.Prelude.{ℕ, Bool, List, [], ◌∷◌, ◌++◌, ◌≡◌, eqb, leb, length}
 use Prim.Native.Char.{code}
-use Prim.Native.String.{String, [] as end-of-text, ◌∷◌ as ◌followed-by◌}
+use Prim.Native.String.{String, [] as end_of_text, ◌∷◌ as ◌followed_by◌}
 use Rattle.std.proofs.Math.Option.{Option, none, some}
 use Rattle.choice.specs.Choice.{if◌then◌else◌}
 use Rattle.filled.specs.Filled.{filled}
@@ -11,7 +11,7 @@ use Rattle.text.specs.declared.Encoded.TheVariants.{Full, Bytes}
 
 -- the bytes of a text that has only signs below U+0080
 abbrev pub ascii : String → List ℕ
-ascii end-of-text = []
+ascii end_of_text = []
 ascii (c followed_by t) = code c ∷ ascii t
 
 -- one word: 1 is the left mark, 2 the right one, any other a code point

@@ -16,7 +16,7 @@ use Rattle.keylog.specs.LogRecords.{and_record, cut_up, records_of}
 use Rattle.keylog.specs.LogSequence.{lent_behind, lent_of, log_lent}
 use Rattle.keylog.proofs.Walking.{walk_records}
 use Rattle.writer.specs.Drills.{settings_record, event_record, event_records, line_events, drill}
-use Rattle.writer.specs.DrillSequence.{DrillSequence}
+use Rattle.writer.specs.DrillSequence.{DrillSequenceStatement}
 use Rattle.writer.proofs.Bytes.{event_is_whole, settings_are_whole}
 use Rattle.writer.proofs.Read.{record_stepped}
 use Rattle.writer.proofs.Played.{chain_leaves, chain_commits}
@@ -45,7 +45,7 @@ drill_lends s line =
     ap lent_of (records_behind (settings_record s) (event_records (line_events 0 line)) (settings_are_whole s))
     ∙ none_lent (line_events 0 line)
 
-pub drill_sequence : DrillSequence
+pub drill_sequence : DrillSequenceStatement
 drill_sequence s line r a =
     let plays = line_plays s r line 0 (record { 0 = 0 }) (omega arith) a in
     record {

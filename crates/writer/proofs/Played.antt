@@ -35,7 +35,7 @@ use Rattle.rules.proofs.Bounds.{A_positive}
 use Rattle.rules.proofs.Held.{held_facts, formed_test, formed_hold, none_held, empty_formed}
 use Rattle.rules.proofs.Steps.{step_accepted}
 use Rattle.keylog.proofs.Lent.{no_pairs_good}
-use Rattle.writer.specs.Drills.{thumb_key, key_down, key_up, thumb_down, thumb_up, tick, strokes-on}
+use Rattle.writer.specs.Drills.{thumb_key, key_down, key_up, thumb_down, thumb_up, tick, strokes_on}
 use Rattle.writer.proofs.Read.{AllAccepted, no_more, and_more}
 
 -- Inputs.
@@ -196,7 +196,7 @@ module _ (s : Settings) (r : in_range s ≡ true) (t : Stamp) (low : t.0 ≤ lar
 
   -- the strokes on a face commit the character and leave nothing resting and no key held
   pub strokes_play : (last : Stamp) → last.0 ≤ t.0 → (f : Face)
-      → Chain (machine_at s S1 last 0) (strokes-on t k f) (machine_at s S1 t 0) (Character k f ∷ [])
+      → Chain (machine_at s S1 last 0) (strokes_on t k f) (machine_at s S1 t 0) (Character k f ∷ [])
   strokes_play last h Plain = go small (key_goes_down last h) refl (go small key_comes_up refl end)
   strokes_play last h (With O) =
       go small (key_goes_down last h) refl

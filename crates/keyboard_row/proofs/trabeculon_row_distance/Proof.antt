@@ -58,31 +58,31 @@ use Rattle.keyboard.specs.declared.DistanceAnswer.{DistanceAnswer}
 use Rattle.keyboard.specs.contracts.DistanceAnswer as R
 use Rattle.keyboard.proofs.DistanceAnswer.TheLaws as R'
 use Rattle.keyboard.specs.contracts.trabeculon_distance as ask
-use Rattle.keyboard.proofs.trabeculon_distance.Symbol as ask-def
+use Rattle.keyboard.proofs.trabeculon_distance.Symbol as ask_def
 use Rattle.keyboard.proofs.trabeculon_distance.Symbol.{name as #keyboard·trabeculon-distance}
-use Rattle.keyboard.proofs.trabeculon_distance.Met as ask-thm
+use Rattle.keyboard.proofs.trabeculon_distance.Met as ask_thm
 use Rattle.row.specs.Views.{is_keyboard}
-use Rattle.row.proofs.Calling.{answers, IsKeyboard, is_keyboard_says, to-is-keyboard, goes_is_keyboard}
+use Rattle.row.proofs.Calling.{answers, IsKeyboard, is_keyboard_says, to_is_keyboard, goes_is_keyboard}
 use Rattle.row.proofs.Leaving.{then_of, Local, local, stacked, env, leave}
 use Rattle.row.proofs.Placed.{within}
-use Rattle.row.proofs.is_keyboard.Symbol as is-keyboard-def
+use Rattle.row.proofs.is_keyboard.Symbol as is_keyboard_def
 use Rattle.row.proofs.is_keyboard.Symbol.{name as #row·is-keyboard}
-use Rattle.row.proofs.is_keyboard.Met as is-keyboard-thm
+use Rattle.row.proofs.is_keyboard.Met as is_keyboard_thm
 use Rattle.keyboard_row.specs.Keyboards.{not_asked, row_distance_numbers}
 use Rattle.keyboard_row.proofs.Placed.{size, any_machine, offset_fits, asked_here, asked_nowhere}
 use Rattle.keyboard_row.proofs.Walking.{M', vals_of, wide, let_go}
-use Rattle.keyboard_row.specs.contracts.not_asked as not-asked'
-use Rattle.keyboard_row.proofs.not_asked.Symbol as not-asked-def
+use Rattle.keyboard_row.specs.contracts.not_asked as not_asked'
+use Rattle.keyboard_row.proofs.not_asked.Symbol as not_asked_def
 use Rattle.keyboard_row.proofs.not_asked.Symbol.{name as #keyboard-row·not-asked}
-use Rattle.keyboard_row.proofs.not_asked.Met as not-asked-thm
+use Rattle.keyboard_row.proofs.not_asked.Met as not_asked_thm
 use Rattle.keyboard_row.specs.contracts.trabeculon_row_distance.Key.{name as #own}
-use Rattle.keyboard_row.specs.contracts.trabeculon_row_distance as row-distance
+use Rattle.keyboard_row.specs.contracts.trabeculon_row_distance as row_distance
 use Rattle.keyboard_row.proofs.trabeculon_row_distance.Statement as stated
 use Rattle.keyboard_row.proofs.trabeculon_row_distance.Code as code
 use Rattle.keyboard_row.proofs.trabeculon_row_distance.Code.Mir as mir
 
 -- of no parameter anything is had at exit
-abbrev stayed : Stays (row-distance.ended).signature.params (row-distance.ended).kept
+abbrev stayed : Stays (row_distance.ended).signature.params (row_distance.ended).kept
 stayed = (
   stay_dropped (shr_slice_of (0 ∷ []) tt (plain (λ _. M'))) yes,
   (
@@ -100,7 +100,7 @@ module _ {M : Type 1} {𝓤 : Ura M} (𝓛 : Logic 𝓤) (mem : Memory → SProp
   Ask = triple_of 𝓛 ask.signature (ask.spec 𝓛 mem run)
 
   abbrev NotAsked : Contract 𝓤
-  NotAsked = triple_of 𝓛 not-asked'.signature (not-asked'.spec 𝓛 mem run)
+  NotAsked = triple_of 𝓛 not_asked'.signature (not_asked'.spec 𝓛 mem run)
 
   ask_says : (κ' : Lft) (m : MachineNumbers) (p : Bor (List ℕ)) (s : ℕ) (pc : ℕ) (t : Stamp) (r : DistanceAnswer)
       → ent 𝓤 (ensured 𝓛 ask.ended (ask.clauses 𝓛 mem run) (κ', tt) (m, (p, (s, (pc, (t, tt))))) tt r)
@@ -110,8 +110,8 @@ module _ {M : Type 1} {𝓤 : Ura M} (𝓛 : Logic 𝓤) (mem : Memory → SProp
       (fact 𝓤 (r ≡ distance_numbers (lent_of p.now s pc) m t)))
 
   not_asked_says : (r : DistanceAnswer)
-      → ent 𝓤 (ensured 𝓛 not-asked'.ended (not-asked'.clauses 𝓛 mem run) tt tt tt r) (fact 𝓤 (r ≡ not_asked))
-  not_asked_says r = ex_e 𝓤 _ (λ ws. snd∗ 𝓤 (sem 𝓛 (lasts not-asked'.ended tt tt ws)) (fact 𝓤 (r ≡ not_asked)))
+      → ent 𝓤 (ensured 𝓛 not_asked'.ended (not_asked'.clauses 𝓛 mem run) tt tt tt r) (fact 𝓤 (r ≡ not_asked))
+  not_asked_says r = ex_e 𝓤 _ (λ ws. snd∗ 𝓤 (sem 𝓛 (lasts not_asked'.ended tt tt ws)) (fact 𝓤 (r ≡ not_asked)))
 
 module _ {M : Type 1} {𝓤 : Ura M} (𝓛 : Logic 𝓤) (mem : Memory → SProp 𝓤) (run : Routine → Fun 𝓤)
     (κ κ' : Lft) (q q' : Share) (b o : ℕ) (γ : GName) (ys : List MachineNumbers) (p : Bor (List ℕ)) (s : ℕ) (pc : ℕ) (i : ℕ) (t : Stamp)
@@ -130,14 +130,14 @@ module _ {M : Type 1} {𝓤 : Ura M} (𝓛 : Logic 𝓤) (mem : Memory → SProp
   x = record { ref_ptr = (b, o); now = ys }
 
   -- the machine values of what is no number
-  abbrev row-val : Val
-  row-val = slice_val (b, o) n
+  abbrev row_val : Val
+  row_val = slice_val (b, o) n
 
-  abbrev p-val : Val
-  p-val = slice_val p.ref_ptr (length p.now)
+  abbrev p_val : Val
+  p_val = slice_val p.ref_ptr (length p.now)
 
-  abbrev t-val : Val
-  t-val = LL.val S.the_type S'.the_laws t
+  abbrev t_val : Val
+  t_val = LL.val S.the_type S'.the_laws t
 
   abbrev Arg : Type 0
   Arg = Bor (List MachineNumbers) × (Bor (List ℕ) × (ℕ × (ℕ × (ℕ × (Stamp × (Unit {0}))))))
@@ -145,37 +145,37 @@ module _ {M : Type 1} {𝓤 : Ura M} (𝓛 : Logic 𝓤) (mem : Memory → SProp
   abbrev a : Arg
   a = (x, (p, (s, (pc, (i, (t, tt))))))
 
-  abbrev at : Vals row-distance.signature (κ, (κ', tt))
-  at = (row-val ∷ [], (p-val ∷ [], (vint w16 s ∷ [], (vint w8 pc ∷ [], (vint w32 i ∷ [], (LL.vals S.the_type S'.the_laws t, tt))))))
+  abbrev at : Vals row_distance.signature (κ, (κ', tt))
+  at = (row_val ∷ [], (p_val ∷ [], (vint w16 s ∷ [], (vint w8 pc ∷ [], (vint w32 i ∷ [], (LL.vals S.the_type S'.the_laws t, tt))))))
 
-  abbrev bound : (walk_of 𝓛 row-distance.ended stayed (row-distance.clauses 𝓛 mem run)).Ghost
+  abbrev bound : (walk_of 𝓛 row_distance.ended stayed (row_distance.clauses 𝓛 mem run)).Ghost
   bound = (((κ, (κ', tt)), (q, (q', tt)), tt, a, at), tt)
 
   abbrev Post : Val → SProp 𝓤
-  Post = (walk_of 𝓛 row-distance.ended stayed (row-distance.clauses 𝓛 mem run)).post bound
+  Post = (walk_of 𝓛 row_distance.ended stayed (row_distance.clauses 𝓛 mem run)).post bound
 
   -- the keyboard's numbers
   abbrev state : MachineNumbers
   state = get_or ys i any_machine
 
   -- what each callee's triple binds outside, and what it asks
-  abbrev to-ask : (Ask 𝓛 mem run).Ghost
-  to-ask = (
+  abbrev to_ask : (Ask 𝓛 mem run).Ghost
+  to_ask = (
     (
       (κ', tt),
       (q', tt),
       tt,
       (state, (p, (s, (pc, (t, tt))))),
-      (vals_of state, (p-val ∷ [], (vint w16 s ∷ [], (vint w8 pc ∷ [], (LL.vals S.the_type S'.the_laws t, tt))))),
+      (vals_of state, (p_val ∷ [], (vint w16 s ∷ [], (vint w8 pc ∷ [], (LL.vals S.the_type S'.the_laws t, tt))))),
     ),
     tt,
   )
 
   abbrev Pairs : Fml
-  Pairs = (ShrSlice (named 1) κ' u32).own_val p (p-val ∷ [])
+  Pairs = (ShrSlice (named 1) κ' u32).own_val p (p_val ∷ [])
 
   goes_ask : Is M' state (vals_of state)
-      → ent 𝓤 (sep 𝓤 (sep 𝓤 (A.lft κ' q') (sem 𝓛 ftrue)) (sem 𝓛 Pairs)) ((Ask 𝓛 mem run).pre to-ask)
+      → ent 𝓤 (sep 𝓤 (sep 𝓤 (A.lft κ' q') (sem 𝓛 ftrue)) (sem 𝓛 Pairs)) ((Ask 𝓛 mem run).pre to_ask)
   goes_ask g =
       qed 𝓛 ((‵ (flft κ' q') ⊛ ‵ ftrue) ∷ ‵ Pairs ∷ []) ∵ nothing ! $
       owned ! S.the_row (Is S.the_row) (LL.makes S.the_type S'.the_plain 𝓛) t _ t_is $ fjoin ! $
@@ -184,10 +184,10 @@ module _ {M : Type 1} {𝓤 : Ura M} (𝓛 : Logic 𝓤) (mem : Memory → SProp
       move ! (2 ∷ 0 ∷ []) $ fjoin ! $ owned ! M' (Is M') (LL.makes T.the_type T'.the_plain 𝓛) state _ g $ fjoin ! $
       move ! (1 ∷ 0 ∷ []) $ join ! $ frame ! $ done !
 
-  abbrev to-not-asked : (NotAsked 𝓛 mem run).Ghost
-  to-not-asked = ((tt, tt, tt, tt, tt), tt)
+  abbrev to_not_asked : (NotAsked 𝓛 mem run).Ghost
+  to_not_asked = ((tt, tt, tt, tt, tt), tt)
 
-  goes_not_asked : ent 𝓤 (sem 𝓛 ftrue) ((NotAsked 𝓛 mem run).pre to-not-asked)
+  goes_not_asked : ent 𝓤 (sem 𝓛 ftrue) ((NotAsked 𝓛 mem run).pre to_not_asked)
   goes_not_asked = qed 𝓛 (‵ ftrue ∷ []) ∵ nothing ! $ join ! $ frame ! $ done !
 
   -- what there is on entry: the tokens, and what the parameters own; it stands under the locals
@@ -200,7 +200,7 @@ module _ {M : Type 1} {𝓤 : Ura M} (𝓛 : Logic 𝓤) (mem : Memory → SProp
       → ent 𝓤 (⋆ 𝓛 (‵ (flft κ q) ∷ (‵ (flft κ' q') ⊛ ‵ ftrue) ∷ [])) (Post (LL.val R.the_type R'.the_laws r))
   exits r g e =
       qed 𝓛 (‵ (flft κ q) ∷ (‵ (flft κ' q') ⊛ ‵ ftrue) ∷ []) ∵
-      suffices ! _ (ends_at 𝓛 row-distance.ended stayed (row-distance.clauses 𝓛 mem run) bound (LL.val R.the_type R'.the_laws r)
+      suffices ! _ (ends_at 𝓛 row_distance.ended stayed (row_distance.clauses 𝓛 mem run) bound (LL.val R.the_type R'.the_laws r)
       r (tt, (tt, (tt, (tt, (tt, (tt, tt)))))) (tt, (tt, (tt, (tt, (tt, (tt, tt))))))) $ says ! e $
       join ! $ frame ! $ let_go 6 $ frame ! $ owned ! R.the_row (Is R.the_row) (LL.makes R.the_type R'.the_plain 𝓛) r _ g $ done !
 
@@ -219,7 +219,7 @@ module _ {M : Type 1} {𝓤 : Ura M} (𝓛 : Logic 𝓤) (mem : Memory → SProp
 
       abbrev held : (v₀ v₇ v₈ v₉ v₁₀ v₁₁ v₁₂ : Option Val) → List Local
       held v₀ v₇ v₈ v₉ v₁₀ v₁₁ v₁₂ =
-          locals v₀ (some row-val) (some p-val) (some (vint w16 s)) (some (vint w8 pc)) (some (vint w32 i)) (some t-val) v₇ v₈ v₉ v₁₀ v₁₁
+          locals v₀ (some row_val) (some p_val) (some (vint w16 s)) (some (vint w8 pc)) (some (vint w32 i)) (some t_val) v₇ v₈ v₉ v₁₀ v₁₁
           v₁₂
 
       abbrev E₀ : Env 𝓤 H
@@ -253,8 +253,8 @@ module _ {M : Type 1} {𝓤 : Ura M} (𝓛 : Logic 𝓤) (mem : Memory → SProp
           (init ! 7 refl ((LL.lawful T.the_type T'.the_laws 𝓛).typed state _ g).0) $
           elem_back ! M' q'' ys i any_machine (vals_of state) b o (within n i taken) $ shuts_slice ! tt M' q'' ys b o $ move ! (1 ∷ []) $
           drop ! $
-          move ! (1 ∷ 2 ∷ []) $ use2 𝓛 (raw ((Ask 𝓛 mem run).pre to-ask)) (goes_ask g) $
-          calls_at ! fm (Ask 𝓛 mem run) known-ask to-ask (and_then ! (load ! (from ! (stop !)) (look ! 2 refl))
+          move ! (1 ∷ 2 ∷ []) $ use2 𝓛 (raw ((Ask 𝓛 mem run).pre to_ask)) (goes_ask g) $
+          calls_at ! fm (Ask 𝓛 mem run) known-ask to_ask (and_then ! (load ! (from ! (stop !)) (look ! 2 refl))
           (and_then ! (load ! (from ! (stop !)) (look ! 22 refl)) (and_then ! (load ! (from ! (stop !)) (look ! 20 refl))
           (and_then ! (load ! (from ! (stop !)) (look ! 18 refl)) (and_then ! (load ! (from ! (stop !)) (look ! 14 refl)) (no_more !))))))
           (λ w₂.
@@ -272,8 +272,8 @@ module _ {M : Type 1} {𝓤 : Ura M} (𝓛 : Logic 𝓤) (mem : Memory → SProp
       -- not in the row: `not_asked` answers
       refuses : T (not (is_keyboard n i)) → Sq 𝓛 Tested (runs C Λ E₀ mir.t-5 (at_ret E₀ Post))
       refuses left =
-          nothing ! $ use1 𝓛 (raw ((NotAsked 𝓛 mem run).pre to-not-asked)) goes_not_asked $
-          calls_at ! fm (NotAsked 𝓛 mem run) known-not-asked to-not-asked (no_more !) (λ w₃.
+          nothing ! $ use1 𝓛 (raw ((NotAsked 𝓛 mem run).pre to_not_asked)) goes_not_asked $
+          calls_at ! fm (NotAsked 𝓛 mem run) known-not-asked to_not_asked (no_more !) (λ w₃.
           answers R.the_row (LL.vals R.the_type R'.the_laws) (LL.tells R.the_type R'.the_laws) (‵ ftrue) w₃ (id⊢ 𝓤 _)
           (not_asked_says 𝓛 mem run)
           (λ d e₃ is₃. drop ! $
@@ -294,9 +294,9 @@ module _ {M : Type 1} {𝓤 : Ura M} (𝓛 : Logic 𝓤) (mem : Memory → SProp
           (init ! 10 refl (tt, record { fits = wide i i-fits })) $
           assigns ! (of_opd ! (load ! (from ! (fld ! refl (stop !))) (look_in ! 22 (sub ! 1 refl (whole !))))) (from ! (stop !))
           (init ! 6 refl (tt, record { fits = room.0 })) $
-          nothing ! $ use1 𝓛 (raw ((IsKeyboard 𝓛 mem run).pre (to-is-keyboard 𝓛 mem run n i)))
+          nothing ! $ use1 𝓛 (raw ((IsKeyboard 𝓛 mem run).pre (to_is_keyboard 𝓛 mem run n i)))
           (goes_is_keyboard 𝓛 mem run n i room.0 (wide i i-fits)) $
-          calls_at ! fm (IsKeyboard 𝓛 mem run) known-is-keyboard (to-is-keyboard 𝓛 mem run n i)
+          calls_at ! fm (IsKeyboard 𝓛 mem run) known-is-keyboard (to_is_keyboard 𝓛 mem run n i)
           (and_then ! (load ! (from ! (stop !)) (look ! 7 refl)) (and_then ! (load ! (from ! (stop !)) (look ! 11 refl)) (no_more !)))
           (λ w.
           answers bool bool_vals bool_Tells (‵ ftrue) w (id⊢ 𝓤 _) (is_keyboard_says 𝓛 mem run n i) (λ r e is. drop ! $
@@ -306,11 +306,11 @@ module _ {M : Type 1} {𝓤 : Ura M} (𝓛 : Logic 𝓤) (mem : Memory → SProp
           (λ taken. asks taken)
           (λ left. skips ! $ exec ! C Λ _ mir.t-5 (at_ret _ Post) $ refuses left)))
 
-    walk : ent 𝓤 (on_entry 𝓛 row-distance.signature (κ, (κ', tt)) (q, (q', tt)) a at)
-        (WpFn 𝓤 H C Λ code.function (row-val ∷ p-val ∷ vint w16 s ∷ vint w8 pc ∷ vint w32 i ∷ t-val ∷ []) Post)
+    walk : ent 𝓤 (on_entry 𝓛 row_distance.signature (κ, (κ', tt)) (q, (q', tt)) a at)
+        (WpFn 𝓤 H C Λ code.function (row_val ∷ p_val ∷ vint w16 s ∷ vint w8 pc ∷ vint w32 i ∷ t_val ∷ []) Post)
     walk =
         qed 𝓛 Under ∵
-        enter ! C Λ code.function (row-val ∷ p-val ∷ vint w16 s ∷ vint w8 pc ∷ vint w32 i ∷ t-val ∷ []) _ $
+        enter ! C Λ code.function (row_val ∷ p_val ∷ vint w16 s ∷ vint w8 pc ∷ vint w32 i ∷ t_val ∷ []) _ $
         alloc1 ! (λ l₀. alloc1 ! (λ l₁. alloc1 ! (λ l₂. alloc1 ! (λ l₃.
         alloc1 ! (λ l₄. alloc1 ! (λ l₅. alloc1 ! (λ l₆. alloc1 ! (λ l₇.
         alloc1 ! (λ l₈. alloc1 ! (λ l₉. alloc1 ! (λ l₁₀. alloc1 ! (λ l₁₁. alloc1 ! (λ l₁₂. alloc0 ! $ params1 ! $
@@ -325,9 +325,9 @@ module _ {M : Type 1} {𝓤 : Ura M} (𝓛 : Logic 𝓤) (mem : Memory → SProp
 
   row_distance_walks : (C : Calls 𝓤 H) (Λ : Loops 𝓤 H) → FmC 𝓤 H 𝓛.laws C → Triple 𝓤 (C #row·is-keyboard) (IsKeyboard 𝓛 mem run)
       → Triple 𝓤 (C #keyboard·trabeculon-distance) (Ask 𝓛 mem run) → Triple 𝓤 (C #keyboard-row·not-asked) (NotAsked 𝓛 mem run)
-      → Walks 𝓛 row-distance.ended stayed (WpFn 𝓤 H C Λ code.function) (row-distance.clauses 𝓛 mem run)
+      → Walks 𝓛 row_distance.ended stayed (WpFn 𝓤 H C Λ code.function) (row_distance.clauses 𝓛 mem run)
   row_distance_walks C Λ fm known-is-keyboard known-ask known-not-asked =
-      walked 𝓛 row-distance.ended stayed (row-distance.clauses 𝓛 mem run) (WpFn 𝓤 H C Λ code.function)
+      walked 𝓛 row_distance.ended stayed (row_distance.clauses 𝓛 mem run) (WpFn 𝓤 H C Λ code.function)
       (λ κs. (shr_slice_vals, (shr_slice_vals, (uint_vals w16, (uint_vals w8, (uint_vals w32, (LL.vals S.the_type S'.the_laws, tt)))))))
       (λ κs. (
         shr_slice_Tells (named 0) κs.0 M',
@@ -343,9 +343,9 @@ module _ {M : Type 1} {𝓤 : Ura M} (𝓛 : Logic 𝓤) (mem : Memory → SProp
 
   row_distance_meets : (𝓣 : Tables 𝓤 H) → Triple 𝓤 (𝓣.C #row·is-keyboard) (IsKeyboard 𝓛 mem run)
       → Triple 𝓤 (𝓣.C #keyboard·trabeculon-distance) (Ask 𝓛 mem run) → Triple 𝓤 (𝓣.C #keyboard-row·not-asked) (NotAsked 𝓛 mem run)
-      → Meets 𝓛 row-distance.signature (WpFn 𝓤 H 𝓣.C 𝓣.Λ code.function) (row-distance.spec 𝓛 mem run)
+      → Meets 𝓛 row_distance.signature (WpFn 𝓤 H 𝓣.C 𝓣.Λ code.function) (row_distance.spec 𝓛 mem run)
   row_distance_meets 𝓣 known-is-keyboard known-ask known-not-asked =
-      walk_Meets 𝓛 row-distance.ended stayed (
+      walk_Meets 𝓛 row_distance.ended stayed (
         Goes-dropped 𝓛 2 (shr_slice_of (0 ∷ []) tt (plain (λ _. M'))) yes (λ κs x f. refl),
         (
           Goes-dropped 𝓛 2 (shr_slice_of (1 ∷ []) tt (plain (λ _. u32))) yes (λ κs x f. refl),
@@ -361,18 +361,18 @@ module _ {M : Type 1} {𝓤 : Ura M} (𝓛 : Logic 𝓤) (mem : Memory → SProp
           ),
         ),
       )
-      (row-distance.clauses 𝓛 mem run) (WpFn 𝓤 H 𝓣.C 𝓣.Λ code.function) (WpFn-mono 𝓤 H 𝓛.laws 𝓣 code.function)
+      (row_distance.clauses 𝓛 mem run) (WpFn 𝓤 H 𝓣.C 𝓣.Λ code.function) (WpFn-mono 𝓤 H 𝓛.laws 𝓣 code.function)
       (row_distance_walks 𝓣.C 𝓣.Λ (fm_of 𝓤 H 𝓛.laws 𝓣) known-is-keyboard known-ask known-not-asked)
 
 pub trabeculon_row_distance_spec : {M : Type 1} → stated.statement M
 unfolding code.routine tables_of
 trabeculon_row_distance_spec 𝓤 𝓛 𝓜 𝓡 =
-    entered 𝓤 𝓛.H (triple_of 𝓛 row-distance.signature (row-distance.spec 𝓛 𝓜.mem 𝓡.run))
+    entered 𝓤 𝓛.H (triple_of 𝓛 row_distance.signature (row_distance.spec 𝓛 𝓜.mem 𝓡.run))
     (tables 𝓤 𝓛.H 𝓜 𝓡 code.env).C (tables 𝓤 𝓛.H 𝓜 𝓡 code.env).Λ #own code.function (code.unfolded 𝓤 𝓛.H 𝓜 𝓡)
     (row_distance_meets 𝓛 𝓜.mem 𝓡.run (tables_of 𝓤 𝓛.H 𝓜 (tables 𝓤 𝓛.H 𝓜 𝓡 code.env))
-    (cited 𝓤 𝓛.H (IsKeyboard 𝓛 𝓜.mem 𝓡.run) 𝓜 𝓡 code.env #row·is-keyboard is-keyboard-def.routine code.calls-row::is-keyboard
-    (is-keyboard-thm.met 𝓤 𝓛 𝓜 𝓡))
-    (cited 𝓤 𝓛.H (Ask 𝓛 𝓜.mem 𝓡.run) 𝓜 𝓡 code.env #keyboard·trabeculon-distance ask-def.routine
-    code.calls-keyboard::trabeculon-distance (ask-thm.met 𝓤 𝓛 𝓜 𝓡))
-    (cited 𝓤 𝓛.H (NotAsked 𝓛 𝓜.mem 𝓡.run) 𝓜 𝓡 code.env #keyboard-row·not-asked not-asked-def.routine
-    code.calls-keyboard-row::not-asked (not-asked-thm.met 𝓤 𝓛 𝓜 𝓡)))
+    (cited 𝓤 𝓛.H (IsKeyboard 𝓛 𝓜.mem 𝓡.run) 𝓜 𝓡 code.env #row·is-keyboard is_keyboard_def.routine code.calls-row::is-keyboard
+    (is_keyboard_thm.met 𝓤 𝓛 𝓜 𝓡))
+    (cited 𝓤 𝓛.H (Ask 𝓛 𝓜.mem 𝓡.run) 𝓜 𝓡 code.env #keyboard·trabeculon-distance ask_def.routine
+    code.calls-keyboard::trabeculon-distance (ask_thm.met 𝓤 𝓛 𝓜 𝓡))
+    (cited 𝓤 𝓛.H (NotAsked 𝓛 𝓜.mem 𝓡.run) 𝓜 𝓡 code.env #keyboard-row·not-asked not_asked_def.routine
+    code.calls-keyboard-row::not-asked (not_asked_thm.met 𝓤 𝓛 𝓜 𝓡)))

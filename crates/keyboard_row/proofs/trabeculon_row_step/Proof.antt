@@ -61,12 +61,12 @@ use Rattle.machine_numbers.specs.contracts.MachineNumbers as T
 use Rattle.machine_numbers.proofs.MachineNumbers.TheLaws as T'
 use Rattle.keyboard.specs.Keyboard.{event_of, lent_of, step_numbers}
 use Rattle.row.specs.Views.{is_keyboard}
-use Rattle.row.proofs.Calling.{answers, IsKeyboard, is_keyboard_says, to-is-keyboard, goes_is_keyboard}
+use Rattle.row.proofs.Calling.{answers, IsKeyboard, is_keyboard_says, to_is_keyboard, goes_is_keyboard}
 use Rattle.row.proofs.Leaving.{then_of, rest_of, Local, local, stacked, env, leave}
 use Rattle.row.proofs.Placed.{within}
-use Rattle.row.proofs.is_keyboard.Symbol as is-keyboard-def
+use Rattle.row.proofs.is_keyboard.Symbol as is_keyboard_def
 use Rattle.row.proofs.is_keyboard.Symbol.{name as #row·is-keyboard}
-use Rattle.row.proofs.is_keyboard.Met as is-keyboard-thm
+use Rattle.row.proofs.is_keyboard.Met as is_keyboard_thm
 use Rattle.keyboard_row.specs.Keyboards.{advanced_numbers, row_numbers, no_keyboard, row_step_numbers}
 use Rattle.keyboard_row.specs.declared.RowStepAnswer.{RowStepAnswer}
 use Rattle.keyboard_row.specs.declared.Advanced.{Advanced}
@@ -77,21 +77,21 @@ use Rattle.keyboard_row.proofs.RowStepAnswer.TheLaws as R'
 use Rattle.keyboard_row.specs.contracts.Advanced as AD
 use Rattle.keyboard_row.proofs.Advanced.TheLaws as AD'
 use Rattle.keyboard_row.specs.contracts.advance as advance
-use Rattle.keyboard_row.proofs.advance.Symbol as advance-def
+use Rattle.keyboard_row.proofs.advance.Symbol as advance_def
 use Rattle.keyboard_row.proofs.advance.Symbol.{name as #keyboard-row·advance}
-use Rattle.keyboard_row.proofs.advance.Met as advance-thm
-use Rattle.keyboard_row.specs.contracts.no_keyboard as no-keyboard'
-use Rattle.keyboard_row.proofs.no_keyboard.Symbol as no-keyboard-def
+use Rattle.keyboard_row.proofs.advance.Met as advance_thm
+use Rattle.keyboard_row.specs.contracts.no_keyboard as no_keyboard'
+use Rattle.keyboard_row.proofs.no_keyboard.Symbol as no_keyboard_def
 use Rattle.keyboard_row.proofs.no_keyboard.Symbol.{name as #keyboard-row·no-keyboard}
-use Rattle.keyboard_row.proofs.no_keyboard.Met as no-keyboard-thm
+use Rattle.keyboard_row.proofs.no_keyboard.Met as no_keyboard_thm
 use Rattle.keyboard_row.specs.contracts.trabeculon_row_step.Key.{name as #own}
-use Rattle.keyboard_row.specs.contracts.trabeculon_row_step as Row-step
+use Rattle.keyboard_row.specs.contracts.trabeculon_row_step as Row_step
 use Rattle.keyboard_row.proofs.trabeculon_row_step.Statement as stated
 use Rattle.keyboard_row.proofs.trabeculon_row_step.Code as code
 use Rattle.keyboard_row.proofs.trabeculon_row_step.Code.Mir as mir
 
 -- the row is still owned at exit; of the other parameters nothing is
-abbrev stayed : Stays (Row-step.ended).signature.params (Row-step.ended).kept
+abbrev stayed : Stays (Row_step.ended).signature.params (Row_step.ended).kept
 stayed = (
   stay_slice (0 ∷ []) tt (plain (λ _. M')),
   (
@@ -127,26 +127,26 @@ module _ {M : Type 1} {𝓤 : Ura M} (𝓛 : Logic 𝓤) (C : Calls 𝓤 𝓛.H)
   -- the locals, and what each holds
   open 𝓛 use {H}
 
-  abbrev code-locals : (v₀ v₁ v₂ v₃ v₄ v₅ v₆ v₇ v₈ v₉ v₁₀ v₁₁ v₁₂ v₁₃ v₁₄ v₁₅ v₁₆ : Option Val) → List Local
-  code-locals v₀ v₁ v₂ v₃ v₄ v₅ v₆ v₇ v₈ v₉ v₁₀ v₁₁ v₁₂ v₁₃ v₁₄ v₁₅ v₁₆ =
+  abbrev code_locals : (v₀ v₁ v₂ v₃ v₄ v₅ v₆ v₇ v₈ v₉ v₁₀ v₁₁ v₁₂ v₁₃ v₁₄ v₁₅ v₁₆ : Option Val) → List Local
+  code_locals v₀ v₁ v₂ v₃ v₄ v₅ v₆ v₇ v₈ v₉ v₁₀ v₁₁ v₁₂ v₁₃ v₁₄ v₁₅ v₁₆ =
       local tR l₀ v₀ ∷ local (slice_ty (ty_ref (named 0) mut (pointee M'.written))) l₁ v₁ ∷
       local (slice_ty (ty_ref (named 1) imm (ty_int w32))) l₂ v₂ ∷ local (ty_int w16) l₃ v₃ ∷ local (ty_int w8) l₄ v₄ ∷
       local (ty_int w32) l₅ v₅ ∷ local (ty_int w8) l₆ v₆ ∷ local (ty_int w8) l₇ v₇ ∷ local tS l₈ v₈ ∷ local (ty_int w64) l₉ v₉ ∷
       local (both_ty tR tT) l₁₀ v₁₀ ∷ local ty_bool l₁₁ v₁₁ ∷ local (ty_int w64) l₁₂ v₁₂ ∷ local (ty_int w64) l₁₃ v₁₃ ∷ local ty_ptr l₁₄ v₁₄ ∷
       local tT l₁₅ v₁₅ ∷ local ty_ptr l₁₆ v₁₆ ∷ []
 
-  abbrev code-env : Env 𝓤 H
-  code-env = env 𝓛 (code-locals none none none none none none none none none none none none none none none none none)
+  abbrev code_env : Env 𝓤 H
+  code_env = env 𝓛 (code_locals none none none none none none none none none none none none none none none none none)
 
   module _ (q : Kit.Post 𝓤 H) (rest : Body) (v₀ v₁ v₂ v₃ v₄ v₅ v₆ v₇ v₈ v₉ v₁₀ v₁₁ v₁₂ v₁₃ v₁₄ v₁₅ v₁₆ : Option Val) where
     -- the machine is copied out
     code_reads : (y₁ y₂ y₃ y₄ y₅ y₆ y₇ : Item 𝓤) (b o : ℕ) (v : Val) → Holds (has_ty tT v) × WT v
         → Sq 𝓛 (‵ (fat full_share (raw_ty tT) b o v) ∷ y₁ ∷ y₂ ∷ y₃ ∷ y₄ ∷ y₅ ∷ y₆ ∷ y₇ ∷
-        stacked 𝓛 (code-locals v₀ v₁ v₂ v₃ v₄ v₅ v₆ v₇ v₈ v₉ v₁₀ v₁₁ v₁₂ v₁₃ (some (vptr b o)) (some v) v₁₆) [])
-        (runs C Λ code-env rest q)
+        stacked 𝓛 (code_locals v₀ v₁ v₂ v₃ v₄ v₅ v₆ v₇ v₈ v₉ v₁₀ v₁₁ v₁₂ v₁₃ (some (vptr b o)) (some v) v₁₆) [])
+        (runs C Λ code_env rest q)
         → Sq 𝓛 (‵ (fat full_share (raw_ty tT) b o v) ∷ y₁ ∷ y₂ ∷ y₃ ∷ y₄ ∷ y₅ ∷ y₆ ∷ y₇ ∷
-        stacked 𝓛 (code-locals v₀ v₁ v₂ v₃ v₄ v₅ v₆ v₇ v₈ v₉ v₁₀ v₁₁ v₁₂ v₁₃ (some (vptr b o)) none v₁₆) [])
-        (runs C Λ code-env (seq (assign (place 15 []) (rv_opd (copy (place 14 (deref tT ∷ []))))) rest) q)
+        stacked 𝓛 (code_locals v₀ v₁ v₂ v₃ v₄ v₅ v₆ v₇ v₈ v₉ v₁₀ v₁₁ v₁₂ v₁₃ (some (vptr b o)) none v₁₆) [])
+        (runs C Λ code_env (seq (assign (place 15 []) (rv_opd (copy (place 14 (deref tT ∷ []))))) rest) q)
     code_reads y₁ y₂ y₃ y₄ y₅ y₆ y₇ b o v wt s =
         assigns ! (of_opd ! (load ! (from ! (hop ! (look ! 12 refl) (stop !))) (look_raw ! 0 refl))) (from ! (stop !))
         (init ! 10 refl wt) $ s
@@ -154,28 +154,28 @@ module _ {M : Type 1} {𝓤 : Ura M} (𝓛 : Logic 𝓤) (C : Calls 𝓤 𝓛.H)
     -- the machine that came back is stored
     code_writes : (y₁ y₂ y₃ y₄ y₅ y₆ : Item 𝓤) (b o : ℕ) (v r m : Val) → Holds (has_ty tT m) × WT m
         → Sq 𝓛 (‵ (fat full_share (raw_ty tT) b o m) ∷ y₁ ∷ y₂ ∷ y₃ ∷ y₄ ∷ y₅ ∷ y₆ ∷
-        stacked 𝓛 (code-locals v₀ v₁ v₂ v₃ v₄ v₅ v₆ v₇ v₈ v₉ (some (both_val r m)) v₁₁ v₁₂ v₁₃ v₁₄ v₁₅ (some (vptr b o))) [])
-        (runs C Λ code-env rest q)
+        stacked 𝓛 (code_locals v₀ v₁ v₂ v₃ v₄ v₅ v₆ v₇ v₈ v₉ (some (both_val r m)) v₁₁ v₁₂ v₁₃ v₁₄ v₁₅ (some (vptr b o))) [])
+        (runs C Λ code_env rest q)
         → Sq 𝓛 (‵ (fat full_share (raw_ty tT) b o v) ∷ y₁ ∷ y₂ ∷ y₃ ∷ y₄ ∷ y₅ ∷ y₆ ∷
-        stacked 𝓛 (code-locals v₀ v₁ v₂ v₃ v₄ v₅ v₆ v₇ v₈ v₉ (some (both_val r m)) v₁₁ v₁₂ v₁₃ v₁₄ v₁₅ (some (vptr b o))) [])
-        (runs C Λ code-env (seq (assign (place 16 (deref tT ∷ [])) (rv_opd (copy (place 10 (field 1 ∷ []))))) rest) q)
+        stacked 𝓛 (code_locals v₀ v₁ v₂ v₃ v₄ v₅ v₆ v₇ v₈ v₉ (some (both_val r m)) v₁₁ v₁₂ v₁₃ v₁₄ v₁₅ (some (vptr b o))) [])
+        (runs C Λ code_env (seq (assign (place 16 (deref tT ∷ [])) (rv_opd (copy (place 10 (field 1 ∷ []))))) rest) q)
     code_writes y₁ y₂ y₃ y₄ y₅ y₆ b o v r m wt s =
         assigns ! (of_opd ! (load ! (from ! (fld ! refl (stop !))) (look_in ! 19 (sub ! 1 refl (whole !)))))
         (from ! (hop ! (look ! 7 refl) (stop !))) (store_raw ! 0 refl wt) $ s
 
     -- what is told is copied, the function returns, and its locals are freed
-    code_leaves : (y₁ y₂ y₃ y₄ : Item 𝓤) (r m : Val) (Kf : Val → SProp 𝓤) → Kit.post 𝓤 H q returnsᴼ ≡ at_return 𝓤 H code-env Kf returnsᴼ
+    code_leaves : (y₁ y₂ y₃ y₄ : Item 𝓤) (r m : Val) (Kf : Val → SProp 𝓤) → Kit.post 𝓤 H q returnsᴼ ≡ at_return 𝓤 H code_env Kf returnsᴼ
         → Holds (has_ty tR r) × WT r
         → ent 𝓤 (⋆ 𝓛 (y₁ ∷ y₂ ∷ y₃ ∷ y₄ ∷ [])) (Kf r)
-        → Sq 𝓛 (y₁ ∷ y₂ ∷ y₃ ∷ y₄ ∷ stacked 𝓛 (code-locals none v₁ v₂ v₃ v₄ v₅ v₆ v₇ v₈ v₉ (some (both_val r m)) v₁₁ v₁₂ v₁₃ v₁₄ v₁₅
-        v₁₆) []) (runs C Λ code-env (seq (assign (place 0 []) (rv_opd (copy (place 10 (field 0 ∷ []))))) return) q)
+        → Sq 𝓛 (y₁ ∷ y₂ ∷ y₃ ∷ y₄ ∷ stacked 𝓛 (code_locals none v₁ v₂ v₃ v₄ v₅ v₆ v₇ v₈ v₉ (some (both_val r m)) v₁₁ v₁₂ v₁₃ v₁₄ v₁₅
+        v₁₆) []) (runs C Λ code_env (seq (assign (place 0 []) (rv_opd (copy (place 10 (field 0 ∷ []))))) return) q)
     code_leaves y₁ y₂ y₃ y₄ r m Kf e wt h =
         assigns ! (of_opd ! (load ! (from ! (fld ! refl (stop !))) (look_in ! 16 (sub ! 0 refl (whole !))))) (from ! (stop !))
         (init ! 36 refl wt) $
         returns_within ! Kf e (look ! 36 refl) $
         move ! (36 ∷ 37 ∷ 34 ∷ 35 ∷ 32 ∷ 33 ∷ 30 ∷ 31 ∷ 28 ∷ 29 ∷ 26 ∷ 27 ∷ 24 ∷ 25 ∷ 22 ∷ 23 ∷ 20 ∷ 21 ∷ 18 ∷ 19 ∷ 16 ∷ 17 ∷ 14 ∷ 15 ∷
         12 ∷ 13 ∷ 10 ∷ 11 ∷ 8 ∷ 9 ∷ 6 ∷ 7 ∷ 4 ∷ 5 ∷ []) $
-        leave 𝓛 (code-locals (some r) v₁ v₂ v₃ v₄ v₅ v₆ v₇ v₈ v₉ (some (both_val r m)) v₁₁ v₁₂ v₁₃ v₁₄ v₁₅ v₁₆) _ _ (by ! h)
+        leave 𝓛 (code_locals (some r) v₁ v₂ v₃ v₄ v₅ v₆ v₇ v₈ v₉ (some (both_val r m)) v₁₁ v₁₂ v₁₃ v₁₄ v₁₅ v₁₆) _ _ (by ! h)
 
 module _ {M : Type 1} {𝓤 : Ura M} (𝓛 : Logic 𝓤) (mem : Memory → SProp 𝓤) (run : Routine → Fun 𝓤) where
   -- the contracts that the proof cites besides, and of each the clause alone
@@ -183,7 +183,7 @@ module _ {M : Type 1} {𝓤 : Ura M} (𝓛 : Logic 𝓤) (mem : Memory → SProp
   Advance = triple_of 𝓛 advance.signature (advance.spec 𝓛 mem run)
 
   abbrev NoKeyboard : Contract 𝓤
-  NoKeyboard = triple_of 𝓛 no-keyboard'.signature (no-keyboard'.spec 𝓛 mem run)
+  NoKeyboard = triple_of 𝓛 no_keyboard'.signature (no_keyboard'.spec 𝓛 mem run)
 
   advance_says : (κ' : Lft) (m : MachineNumbers) (p : Bor (List ℕ)) (s : ℕ) (pc : ℕ) (c : ℕ) (k : ℕ) (t : Stamp) (r : Advanced)
       → ent 𝓤 (ensured 𝓛 advance.ended (advance.clauses 𝓛 mem run) (κ', tt) (m, (p, (s, (pc, (c, (k, (t, tt))))))) tt r)
@@ -193,8 +193,8 @@ module _ {M : Type 1} {𝓤 : Ura M} (𝓛 : Logic 𝓤) (mem : Memory → SProp
       (fact 𝓤 (r ≡ advanced_numbers (step_numbers (lent_of p.now s pc) m (event_of c k t)))))
 
   no_keyboard_says : (r : RowStepAnswer)
-      → ent 𝓤 (ensured 𝓛 no-keyboard'.ended (no-keyboard'.clauses 𝓛 mem run) tt tt tt r) (fact 𝓤 (r ≡ no_keyboard))
-  no_keyboard_says r = ex_e 𝓤 _ (λ ws. snd∗ 𝓤 (sem 𝓛 (lasts no-keyboard'.ended tt tt ws)) (fact 𝓤 (r ≡ no_keyboard)))
+      → ent 𝓤 (ensured 𝓛 no_keyboard'.ended (no_keyboard'.clauses 𝓛 mem run) tt tt tt r) (fact 𝓤 (r ≡ no_keyboard))
+  no_keyboard_says r = ex_e 𝓤 _ (λ ws. snd∗ 𝓤 (sem 𝓛 (lasts no_keyboard'.ended tt tt ws)) (fact 𝓤 (r ≡ no_keyboard)))
 
 module _ {M : Type 1} {𝓤 : Ura M} (𝓛 : Logic 𝓤) (mem : Memory → SProp 𝓤) (run : Routine → Fun 𝓤)
     (κ κ' : Lft) (q q' : Share) (b o : ℕ) (γ : GName) (ys : List MachineNumbers) (p : MutBor (List ℕ)) (s : ℕ) (pc : ℕ) (i : ℕ) (c : ℕ)
@@ -219,14 +219,14 @@ module _ {M : Type 1} {𝓤 : Ura M} (𝓛 : Logic 𝓤) (mem : Memory → SProp
   x l = record { ref_ptr = (b, o); ghost_name = γ; now = l }
 
   -- the machine values of what is no number
-  abbrev row-val : Val
-  row-val = slice_val (b, o) n
+  abbrev row_val : Val
+  row_val = slice_val (b, o) n
 
-  abbrev p-val : Val
-  p-val = slice_val p.ref_ptr (length p.now)
+  abbrev p_val : Val
+  p_val = slice_val p.ref_ptr (length p.now)
 
-  abbrev t-val : Val
-  t-val = LL.val S.the_type S'.the_laws t
+  abbrev t_val : Val
+  t_val = LL.val S.the_type S'.the_laws t
 
   abbrev Arg : Type 0
   Arg = Bor (List MachineNumbers) × (Bor (List ℕ) × (ℕ × (ℕ × (ℕ × (ℕ × (ℕ × (Stamp × (Unit {0}))))))))
@@ -234,11 +234,11 @@ module _ {M : Type 1} {𝓤 : Ura M} (𝓛 : Logic 𝓤) (mem : Memory → SProp
   abbrev a : Arg
   a = (x ys, (p, (s, (pc, (i, (c, (k, (t, tt))))))))
 
-  abbrev at : Vals Row-step.signature (κ, (κ', tt))
+  abbrev at : Vals Row_step.signature (κ, (κ', tt))
   at = (
-    row-val ∷ [],
+    row_val ∷ [],
     (
-      p-val ∷ [],
+      p_val ∷ [],
       (
         vint w16 s ∷ [],
         (
@@ -249,11 +249,11 @@ module _ {M : Type 1} {𝓤 : Ura M} (𝓛 : Logic 𝓤) (mem : Memory → SProp
     ),
   )
 
-  abbrev bound : (walk_of 𝓛 Row-step.ended stayed (Row-step.clauses 𝓛 mem run)).Ghost
+  abbrev bound : (walk_of 𝓛 Row_step.ended stayed (Row_step.clauses 𝓛 mem run)).Ghost
   bound = (((κ, (κ', tt)), (q, (q', tt)), tt, a, at), tt)
 
   abbrev Post : Val → SProp 𝓤
-  Post = (walk_of 𝓛 Row-step.ended stayed (Row-step.clauses 𝓛 mem run)).post bound
+  Post = (walk_of 𝓛 Row_step.ended stayed (Row_step.clauses 𝓛 mem run)).post bound
 
   -- the keyboard's numbers, and where they lie
   abbrev state : MachineNumbers
@@ -263,8 +263,8 @@ module _ {M : Type 1} {𝓤 : Ura M} (𝓛 : Logic 𝓤) (mem : Memory → SProp
   here = lies_at_lem (in_memory M').size o i
 
   -- what each callee's triple binds outside, and what it asks
-  abbrev to-advance : (Advance 𝓛 mem run).Ghost
-  to-advance = (
+  abbrev to_advance : (Advance 𝓛 mem run).Ghost
+  to_advance = (
     (
       (κ', tt),
       (q', tt),
@@ -273,7 +273,7 @@ module _ {M : Type 1} {𝓤 : Ura M} (𝓛 : Logic 𝓤) (mem : Memory → SProp
       (
         vals_of state,
         (
-          p-val ∷ [],
+          p_val ∷ [],
           (
             vint w16 s ∷ [],
             (
@@ -288,10 +288,10 @@ module _ {M : Type 1} {𝓤 : Ura M} (𝓛 : Logic 𝓤) (mem : Memory → SProp
   )
 
   abbrev Pairs : Fml
-  Pairs = (ShrSlice (named 1) κ' u32).own_val p (p-val ∷ [])
+  Pairs = (ShrSlice (named 1) κ' u32).own_val p (p_val ∷ [])
 
   goes_advance : Is M' state (vals_of state)
-      → ent 𝓤 (sep 𝓤 (sep 𝓤 (A.lft κ' q') (sem 𝓛 ftrue)) (sem 𝓛 Pairs)) ((Advance 𝓛 mem run).pre to-advance)
+      → ent 𝓤 (sep 𝓤 (sep 𝓤 (A.lft κ' q') (sem 𝓛 ftrue)) (sem 𝓛 Pairs)) ((Advance 𝓛 mem run).pre to_advance)
   goes_advance g =
       qed 𝓛 ((‵ (flft κ' q') ⊛ ‵ ftrue) ∷ ‵ Pairs ∷ []) ∵ nothing ! $
       owned ! S.the_row (Is S.the_row) (LL.makes S.the_type S'.the_plain 𝓛) t _ t_is $ fjoin ! $
@@ -302,10 +302,10 @@ module _ {M : Type 1} {𝓤 : Ura M} (𝓛 : Logic 𝓤) (mem : Memory → SProp
       move ! (2 ∷ 0 ∷ []) $ fjoin ! $ owned ! M' (Is M') (LL.makes T.the_type T'.the_plain 𝓛) state _ g $ fjoin ! $
       move ! (1 ∷ 0 ∷ []) $ join ! $ frame ! $ done !
 
-  abbrev to-no-keyboard : (NoKeyboard 𝓛 mem run).Ghost
-  to-no-keyboard = ((tt, tt, tt, tt, tt), tt)
+  abbrev to_no_keyboard : (NoKeyboard 𝓛 mem run).Ghost
+  to_no_keyboard = ((tt, tt, tt, tt, tt), tt)
 
-  goes_no_keyboard : ent 𝓤 (sem 𝓛 ftrue) ((NoKeyboard 𝓛 mem run).pre to-no-keyboard)
+  goes_no_keyboard : ent 𝓤 (sem 𝓛 ftrue) ((NoKeyboard 𝓛 mem run).pre to_no_keyboard)
   goes_no_keyboard = qed 𝓛 (‵ ftrue ∷ []) ∵ nothing ! $ join ! $ frame ! $ done !
 
   -- what there is on entry: the tokens, and what the parameters own; it stands under the locals
@@ -321,7 +321,7 @@ module _ {M : Type 1} {𝓤 : Ura M} (𝓛 : Logic 𝓤) (mem : Memory → SProp
   exits zs r g l e =
       qed 𝓛 (‵ (fobs γ ((coded_holeys M').code (heres M' zs))) ∷ ‵ (fbor κ (Held M' (length zs) b o γ)) ∷ ‵ (flft κ q) ∷
       (‵ (flft κ' q') ⊛ ‵ ftrue) ∷ []) ∵
-      suffices ! _ (ends_at 𝓛 Row-step.ended stayed (Row-step.clauses 𝓛 mem run) bound (LL.val R.the_type R'.the_laws r) r
+      suffices ! _ (ends_at 𝓛 Row_step.ended stayed (Row_step.clauses 𝓛 mem run) bound (LL.val R.the_type R'.the_laws r) r
       (zs, (tt, (tt, (tt, (tt, (tt, (tt, (tt, tt)))))))) (l, (tt, (tt, (tt, (tt, (tt, (tt, (tt, tt))))))))) $ says ! e $
       move ! (2 ∷ 3 ∷ []) $ join ! $ frame ! $
       fjoin ! $ pure_i ! (mut_slice_at M' (x zs) at.0) (tt, (tt, tt)) (
@@ -338,22 +338,22 @@ module _ {M : Type 1} {𝓤 : Ura M} (𝓛 : Logic 𝓤) (mem : Memory → SProp
     module _ (l₀ l₁ l₂ l₃ l₄ l₅ l₆ l₇ l₈ l₉ l₁₀ l₁₁ l₁₂ l₁₃ l₁₄ l₁₅ l₁₆ : ℕ) where
       -- the locals, at the types that the function has; and those where the parameters are as passed
       abbrev locals : (v₀ v₁ v₂ v₃ v₄ v₅ v₆ v₇ v₈ v₉ v₁₀ v₁₁ v₁₂ v₁₃ v₁₄ v₁₅ v₁₆ : Option Val) → List Local
-      locals = code-locals 𝓛 C Λ R'.mir S'.mir T'.mir l₀ l₁ l₂ l₃ l₄ l₅ l₆ l₇ l₈ l₉ l₁₀ l₁₁ l₁₂ l₁₃ l₁₄ l₁₅ l₁₆
+      locals = code_locals 𝓛 C Λ R'.mir S'.mir T'.mir l₀ l₁ l₂ l₃ l₄ l₅ l₆ l₇ l₈ l₉ l₁₀ l₁₁ l₁₂ l₁₃ l₁₄ l₁₅ l₁₆
 
       abbrev held : (v₀ v₉ v₁₀ v₁₁ v₁₂ v₁₃ v₁₄ v₁₅ v₁₆ : Option Val) → List Local
       held v₀ v₉ v₁₀ v₁₁ v₁₂ v₁₃ v₁₄ v₁₅ v₁₆ =
-          locals v₀ (some row-val) (some p-val) (some (vint w16 s)) (some (vint w8 pc)) (some (vint w32 i)) (some (vint w8 c))
-          (some (vint w8 k)) (some t-val) v₉ v₁₀ v₁₁ v₁₂ v₁₃ v₁₄ v₁₅ v₁₆
+          locals v₀ (some row_val) (some p_val) (some (vint w16 s)) (some (vint w8 pc)) (some (vint w32 i)) (some (vint w8 c))
+          (some (vint w8 k)) (some t_val) v₉ v₁₀ v₁₁ v₁₂ v₁₃ v₁₄ v₁₅ v₁₆
 
       abbrev E₀ : Env 𝓤 H
-      E₀ = code-env 𝓛 C Λ R'.mir S'.mir T'.mir l₀ l₁ l₂ l₃ l₄ l₅ l₆ l₇ l₈ l₉ l₁₀ l₁₁ l₁₂ l₁₃ l₁₄ l₁₅ l₁₆
+      E₀ = code_env 𝓛 C Λ R'.mir S'.mir T'.mir l₀ l₁ l₂ l₃ l₄ l₅ l₆ l₇ l₈ l₉ l₁₀ l₁₁ l₁₂ l₁₃ l₁₄ l₁₅ l₁₆
 
       -- what is told and the machine, in memory
-      abbrev told-val : Advanced → Val
-      told-val d = LL.val R.the_type R'.the_laws d.told
+      abbrev told_val : Advanced → Val
+      told_val d = LL.val R.the_type R'.the_laws d.told
 
-      abbrev machine-val : Advanced → Val
-      machine-val d = LL.val T.the_type T'.the_laws d.machine
+      abbrev machine_val : Advanced → Val
+      machine_val d = LL.val T.the_type T'.the_laws d.machine
 
       -- what `advance` returns holds both
       abbrev Returned : Advanced → Type 0
@@ -381,7 +381,7 @@ module _ {M : Type 1} {𝓤 : Ura M} (𝓛 : Logic 𝓤) (mem : Memory → SProp
           ‵ (others (shares M') full_share ys i b o)
           ∷ ‵ (fobor κ q (Held M' (length ys) b o γ)) ∷ ‵ (fobs γ ((coded_holeys M').code (heres M' ys)))
           ∷ ‵ (fauth γ ((coded_holeys M').code (heres M' ys))) ∷ (‵ (flft κ' q') ⊛ ‵ ftrue)
-          ∷ stacked 𝓛 (held none (some (vint w64 i)) (some (both_val (told-val d) (machine-val d))) (some (vbool (is_keyboard n i)))
+          ∷ stacked 𝓛 (held none (some (vint w64 i)) (some (both_val (told_val d) (machine_val d))) (some (vbool (is_keyboard n i)))
           (some (vint w64 n)) (some (vint w64 (i * size))) (some (vptr b here)) (some (only (vals_of state))) v) []
 
       -- the code after the call
@@ -393,19 +393,19 @@ module _ {M : Type 1} {𝓤 : Ura M} (𝓛 : Logic 𝓤) (mem : Memory → SProp
           → Sq 𝓛 (Out (some (vptr b here)) d) (runs C Λ E₀ (rest_of (rest_of after_call)) Then)
       closes taken d is₂ e₂ =
           code_writes 𝓛 C Λ R'.mir S'.mir T'.mir l₀ l₁ l₂ l₃ l₄ l₅ l₆ l₇ l₈ l₉ l₁₀ l₁₁ l₁₂ l₁₃ l₁₄ l₁₅ l₁₆ Then
-          (rest_of (rest_of (rest_of after_call))) none (some row-val) (some p-val) (some (vint w16 s)) (some (vint w8 pc))
-          (some (vint w32 i)) (some (vint w8 c)) (some (vint w8 k)) (some t-val) (some (vint w64 i)) none (some (vbool (is_keyboard n i)))
+          (rest_of (rest_of (rest_of after_call))) none (some row_val) (some p_val) (some (vint w16 s)) (some (vint w8 pc))
+          (some (vint w32 i)) (some (vint w8 c)) (some (vint w8 k)) (some t_val) (some (vint w64 i)) none (some (vbool (is_keyboard n i)))
           (some (vint w64 n)) (some (vint w64 (i * size))) (some (vptr b here)) (some (only (vals_of state))) none _ _ _ _ _ _ b here
-          (only (vals_of state)) (told-val d) (machine-val d)
+          (only (vals_of state)) (told_val d) (machine_val d)
           ((LL.lawful T.the_type T'.the_laws 𝓛).typed d.machine (vals_of d.machine) (machine_is d is₂)).0
           (move ! (1 ∷ []) $ drop ! $ owned ! M' (Is M') (LL.makes T.the_type T'.the_plain 𝓛) d.machine (vals_of d.machine)
           (machine_is d is₂) $
           move ! (1 ∷ 0 ∷ []) $ elem_put ! M' full_share ys i d.machine (vals_of d.machine) b o (within n i taken) $
           closes_slice ! tt M' ys (set ys i d.machine) (length-set ys i d.machine) b o $
           code_leaves 𝓛 C Λ R'.mir S'.mir T'.mir l₀ l₁ l₂ l₃ l₄ l₅ l₆ l₇ l₈ l₉ l₁₀ l₁₁ l₁₂ l₁₃ l₁₄ l₁₅ l₁₆ Then skip none
-          (some row-val) (some p-val) (some (vint w16 s)) (some (vint w8 pc)) (some (vint w32 i)) (some (vint w8 c)) (some (vint w8 k))
-          (some t-val) (some (vint w64 i)) none (some (vbool (is_keyboard n i))) (some (vint w64 n)) (some (vint w64 (i * size)))
-          (some (vptr b here)) (some (only (vals_of state))) (some (vptr b here)) _ _ _ _ (told-val d) (machine-val d) Post refl
+          (some row_val) (some p_val) (some (vint w16 s)) (some (vint w8 pc)) (some (vint w32 i)) (some (vint w8 c)) (some (vint w8 k))
+          (some t_val) (some (vint w64 i)) none (some (vbool (is_keyboard n i))) (some (vint w64 n)) (some (vint w64 (i * size)))
+          (some (vptr b here)) (some (only (vals_of state))) (some (vptr b here)) _ _ _ _ (told_val d) (machine_val d) Post refl
           ((LL.lawful R.the_type R'.the_laws 𝓛).typed d.told (LL.vals R.the_type R'.the_laws d.told) (told_is d is₂)).0
           (exits (set ys i d.machine) d.told (told_is d is₂) (length-set ys i d.machine) (told_here ys i g₀ taken ev d e₂)))
 
@@ -435,12 +435,12 @@ module _ {M : Type 1} {𝓤 : Ura M} (𝓛 : Logic 𝓤) (mem : Memory → SProp
           elem_out ! M' (Is M') (shows 𝓛 M') vals_of (LL.tells T.the_type T'.the_laws) full_share ys i any_machine b o
           (within n i taken) (λ g.
           code_reads 𝓛 C Λ R'.mir S'.mir T'.mir l₀ l₁ l₂ l₃ l₄ l₅ l₆ l₇ l₈ l₉ l₁₀ l₁₁ l₁₂ l₁₃ l₁₄ l₁₅ l₁₆ Then
-          (rest_of (rest_of (rest_of (then_of mir.s-4)))) none (some row-val) (some p-val) (some (vint w16 s)) (some (vint w8 pc))
-          (some (vint w32 i)) (some (vint w8 c)) (some (vint w8 k)) (some t-val) (some (vint w64 i)) none (some (vbool (is_keyboard n i)))
+          (rest_of (rest_of (rest_of (then_of mir.s-4)))) none (some row_val) (some p_val) (some (vint w16 s)) (some (vint w8 pc))
+          (some (vint w32 i)) (some (vint w8 c)) (some (vint w8 k)) (some t_val) (some (vint w64 i)) none (some (vbool (is_keyboard n i)))
           (some (vint w64 n)) (some (vint w64 (i * size))) none none none _ _ _ _ _ _ _ b here (only (vals_of state))
           ((LL.lawful T.the_type T'.the_laws 𝓛).typed state (vals_of state) g).0 (
-          move ! (6 ∷ 7 ∷ []) $ use2 𝓛 (raw ((Advance 𝓛 mem run).pre to-advance)) (goes_advance g) $
-          calls_at ! fm (Advance 𝓛 mem run) known-advance to-advance
+          move ! (6 ∷ 7 ∷ []) $ use2 𝓛 (raw ((Advance 𝓛 mem run).pre to_advance)) (goes_advance g) $
+          calls_at ! fm (Advance 𝓛 mem run) known-advance to_advance
           (and_then ! (load ! (from ! (stop !)) (look ! 9 refl)) (and_then ! (load ! (from ! (stop !)) (look ! 35 refl))
           (and_then ! (load ! (from ! (stop !)) (look ! 33 refl)) (and_then ! (load ! (from ! (stop !)) (look ! 31 refl))
           (and_then ! (load ! (from ! (stop !)) (look ! 27 refl)) (and_then ! (load ! (from ! (stop !)) (look ! 25 refl))
@@ -454,8 +454,8 @@ module _ {M : Type 1} {𝓤 : Ura M} (𝓛 : Logic 𝓤) (mem : Memory → SProp
       -- not in the row: `no_keyboard` answers, and the row is as it was
       refuses : T (not (is_keyboard n i)) → Sq 𝓛 Tested (runs C Λ E₀ mir.t-5 (at_ret E₀ Post))
       refuses left =
-          nothing ! $ use1 𝓛 (raw ((NoKeyboard 𝓛 mem run).pre to-no-keyboard)) goes_no_keyboard $
-          calls_at ! fm (NoKeyboard 𝓛 mem run) known-no-keyboard to-no-keyboard (no_more !) (λ w₃.
+          nothing ! $ use1 𝓛 (raw ((NoKeyboard 𝓛 mem run).pre to_no_keyboard)) goes_no_keyboard $
+          calls_at ! fm (NoKeyboard 𝓛 mem run) known-no-keyboard to_no_keyboard (no_more !) (λ w₃.
           answers R.the_row (LL.vals R.the_type R'.the_laws) (LL.tells R.the_type R'.the_laws) (‵ ftrue) w₃ (id⊢ 𝓤 _)
           (no_keyboard_says 𝓛 mem run)
           (λ d e₃ is₃. drop ! $
@@ -478,9 +478,9 @@ module _ {M : Type 1} {𝓤 : Ura M} (𝓛 : Logic 𝓤) (mem : Memory → SProp
           (init ! 14 refl (tt, record { fits = wide i i-fits })) $
           assigns ! (of_opd ! (load ! (from ! (fld ! refl (stop !))) (look_in ! 30 (sub ! 1 refl (whole !))))) (from ! (stop !))
           (init ! 8 refl (tt, record { fits = room.0 })) $
-          nothing ! $ use1 𝓛 (raw ((IsKeyboard 𝓛 mem run).pre (to-is-keyboard 𝓛 mem run n i)))
+          nothing ! $ use1 𝓛 (raw ((IsKeyboard 𝓛 mem run).pre (to_is_keyboard 𝓛 mem run n i)))
           (goes_is_keyboard 𝓛 mem run n i room.0 (wide i i-fits)) $
-          calls_at ! fm (IsKeyboard 𝓛 mem run) known-is-keyboard (to-is-keyboard 𝓛 mem run n i)
+          calls_at ! fm (IsKeyboard 𝓛 mem run) known-is-keyboard (to_is_keyboard 𝓛 mem run n i)
           (and_then ! (load ! (from ! (stop !)) (look ! 9 refl)) (and_then ! (load ! (from ! (stop !)) (look ! 15 refl)) (no_more !)))
           (λ w.
           answers bool bool_vals bool_Tells (‵ ftrue) w (id⊢ 𝓤 _) (is_keyboard_says 𝓛 mem run n i) (λ r e is. drop ! $
@@ -490,11 +490,11 @@ module _ {M : Type 1} {𝓤 : Ura M} (𝓛 : Logic 𝓤) (mem : Memory → SProp
           (λ taken. steps taken)
           (λ left. skips ! $ exec ! C Λ _ mir.t-5 (at_ret _ Post) $ refuses left)))
 
-    walk : ent 𝓤 (on_entry 𝓛 Row-step.signature (κ, (κ', tt)) (q, (q', tt)) a at)
-        (WpFn 𝓤 H C Λ code.function (row-val ∷ p-val ∷ vint w16 s ∷ vint w8 pc ∷ vint w32 i ∷ vint w8 c ∷ vint w8 k ∷ t-val ∷ []) Post)
+    walk : ent 𝓤 (on_entry 𝓛 Row_step.signature (κ, (κ', tt)) (q, (q', tt)) a at)
+        (WpFn 𝓤 H C Λ code.function (row_val ∷ p_val ∷ vint w16 s ∷ vint w8 pc ∷ vint w32 i ∷ vint w8 c ∷ vint w8 k ∷ t_val ∷ []) Post)
     walk =
         qed 𝓛 Under ∵
-        enter ! C Λ code.function (row-val ∷ p-val ∷ vint w16 s ∷ vint w8 pc ∷ vint w32 i ∷ vint w8 c ∷ vint w8 k ∷ t-val ∷ []) _ $
+        enter ! C Λ code.function (row_val ∷ p_val ∷ vint w16 s ∷ vint w8 pc ∷ vint w32 i ∷ vint w8 c ∷ vint w8 k ∷ t_val ∷ []) _ $
         alloc1 ! (λ l₀. alloc1 ! (λ l₁. alloc1 ! (λ l₂. alloc1 ! (λ l₃.
         alloc1 ! (λ l₄. alloc1 ! (λ l₅. alloc1 ! (λ l₆. alloc1 ! (λ l₇.
         alloc1 ! (λ l₈. alloc1 ! (λ l₉. alloc1 ! (λ l₁₀. alloc1 ! (λ l₁₁.
@@ -511,9 +511,9 @@ module _ {M : Type 1} {𝓤 : Ura M} (𝓛 : Logic 𝓤) (mem : Memory → SProp
 
   row_step_walks : (C : Calls 𝓤 H) (Λ : Loops 𝓤 H) → FmC 𝓤 H 𝓛.laws C → Triple 𝓤 (C #row·is-keyboard) (IsKeyboard 𝓛 mem run)
       → Triple 𝓤 (C #keyboard-row·advance) (Advance 𝓛 mem run) → Triple 𝓤 (C #keyboard-row·no-keyboard) (NoKeyboard 𝓛 mem run)
-      → Walks 𝓛 Row-step.ended stayed (WpFn 𝓤 H C Λ code.function) (Row-step.clauses 𝓛 mem run)
+      → Walks 𝓛 Row_step.ended stayed (WpFn 𝓤 H C Λ code.function) (Row_step.clauses 𝓛 mem run)
   row_step_walks C Λ fm known-is-keyboard known-advance known-no-keyboard =
-      walked 𝓛 Row-step.ended stayed (Row-step.clauses 𝓛 mem run) (WpFn 𝓤 H C Λ code.function)
+      walked 𝓛 Row_step.ended stayed (Row_step.clauses 𝓛 mem run) (WpFn 𝓤 H C Λ code.function)
       (λ κs. (
         shr_slice_vals,
         (
@@ -542,9 +542,9 @@ module _ {M : Type 1} {𝓤 : Ura M} (𝓛 : Logic 𝓤) (mem : Memory → SProp
 
   row_step_meets : (𝓣 : Tables 𝓤 H) → Triple 𝓤 (𝓣.C #row·is-keyboard) (IsKeyboard 𝓛 mem run)
       → Triple 𝓤 (𝓣.C #keyboard-row·advance) (Advance 𝓛 mem run) → Triple 𝓤 (𝓣.C #keyboard-row·no-keyboard) (NoKeyboard 𝓛 mem run)
-      → Meets 𝓛 Row-step.signature (WpFn 𝓤 H 𝓣.C 𝓣.Λ code.function) (Row-step.spec 𝓛 mem run)
+      → Meets 𝓛 Row_step.signature (WpFn 𝓤 H 𝓣.C 𝓣.Λ code.function) (Row_step.spec 𝓛 mem run)
   row_step_meets 𝓣 known-is-keyboard known-advance known-no-keyboard =
-      walk_Meets 𝓛 Row-step.ended stayed (
+      walk_Meets 𝓛 Row_step.ended stayed (
         Goes-slice 𝓛 2 0 tt (plain (λ _. M')),
         (
           Goes-dropped 𝓛 2 (shr_slice_of (1 ∷ []) tt (plain (λ _. u32))) yes
@@ -567,18 +567,18 @@ module _ {M : Type 1} {𝓤 : Ura M} (𝓛 : Logic 𝓤) (mem : Memory → SProp
           ),
         ),
       )
-      (Row-step.clauses 𝓛 mem run) (WpFn 𝓤 H 𝓣.C 𝓣.Λ code.function) (WpFn-mono 𝓤 H 𝓛.laws 𝓣 code.function)
+      (Row_step.clauses 𝓛 mem run) (WpFn 𝓤 H 𝓣.C 𝓣.Λ code.function) (WpFn-mono 𝓤 H 𝓛.laws 𝓣 code.function)
       (row_step_walks 𝓣.C 𝓣.Λ (fm_of 𝓤 H 𝓛.laws 𝓣) known-is-keyboard known-advance known-no-keyboard)
 
 pub trabeculon_row_step_spec : {M : Type 1} → stated.statement M
 unfolding code.routine tables_of
 trabeculon_row_step_spec 𝓤 𝓛 𝓜 𝓡 =
-    entered 𝓤 𝓛.H (triple_of 𝓛 Row-step.signature (Row-step.spec 𝓛 𝓜.mem 𝓡.run))
+    entered 𝓤 𝓛.H (triple_of 𝓛 Row_step.signature (Row_step.spec 𝓛 𝓜.mem 𝓡.run))
     (tables 𝓤 𝓛.H 𝓜 𝓡 code.env).C (tables 𝓤 𝓛.H 𝓜 𝓡 code.env).Λ #own code.function (code.unfolded 𝓤 𝓛.H 𝓜 𝓡)
     (row_step_meets 𝓛 𝓜.mem 𝓡.run (tables_of 𝓤 𝓛.H 𝓜 (tables 𝓤 𝓛.H 𝓜 𝓡 code.env))
-    (cited 𝓤 𝓛.H (IsKeyboard 𝓛 𝓜.mem 𝓡.run) 𝓜 𝓡 code.env #row·is-keyboard is-keyboard-def.routine code.calls-row::is-keyboard
-    (is-keyboard-thm.met 𝓤 𝓛 𝓜 𝓡))
-    (cited 𝓤 𝓛.H (Advance 𝓛 𝓜.mem 𝓡.run) 𝓜 𝓡 code.env #keyboard-row·advance advance-def.routine code.calls-keyboard-row::advance
-    (advance-thm.met 𝓤 𝓛 𝓜 𝓡))
-    (cited 𝓤 𝓛.H (NoKeyboard 𝓛 𝓜.mem 𝓡.run) 𝓜 𝓡 code.env #keyboard-row·no-keyboard no-keyboard-def.routine
-    code.calls-keyboard-row::no-keyboard (no-keyboard-thm.met 𝓤 𝓛 𝓜 𝓡)))
+    (cited 𝓤 𝓛.H (IsKeyboard 𝓛 𝓜.mem 𝓡.run) 𝓜 𝓡 code.env #row·is-keyboard is_keyboard_def.routine code.calls-row::is-keyboard
+    (is_keyboard_thm.met 𝓤 𝓛 𝓜 𝓡))
+    (cited 𝓤 𝓛.H (Advance 𝓛 𝓜.mem 𝓡.run) 𝓜 𝓡 code.env #keyboard-row·advance advance_def.routine code.calls-keyboard-row::advance
+    (advance_thm.met 𝓤 𝓛 𝓜 𝓡))
+    (cited 𝓤 𝓛.H (NoKeyboard 𝓛 𝓜.mem 𝓡.run) 𝓜 𝓡 code.env #keyboard-row·no-keyboard no_keyboard_def.routine
+    code.calls-keyboard-row::no-keyboard (no_keyboard_thm.met 𝓤 𝓛 𝓜 𝓡)))

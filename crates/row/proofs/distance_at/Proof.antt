@@ -59,15 +59,15 @@ use Rattle.rules.proofs.Machine.TheLaws as T'
 use Rattle.rules.specs.contracts.Stamp as E
 use Rattle.rules.proofs.Stamp.TheLaws as E'
 use Rattle.row.specs.contracts.ask as ask
-use Rattle.row.proofs.ask.Symbol as ask-def
+use Rattle.row.proofs.ask.Symbol as ask_def
 use Rattle.row.proofs.ask.Symbol.{name as #row·ask}
-use Rattle.row.proofs.ask.Met as ask-thm
+use Rattle.row.proofs.ask.Met as ask_thm
 use Rattle.row.specs.contracts.not_asked as not_asked
-use Rattle.row.proofs.not_asked.Symbol as not-asked-def
+use Rattle.row.proofs.not_asked.Symbol as not_asked_def
 use Rattle.row.proofs.not_asked.Symbol.{name as #row·not-asked}
-use Rattle.row.proofs.not_asked.Met as not-asked-thm
+use Rattle.row.proofs.not_asked.Met as not_asked_thm
 use Rattle.row.specs.contracts.distance_at.Key.{name as #row·distance-at}
-use Rattle.row.specs.contracts.distance_at as distance-at'
+use Rattle.row.specs.contracts.distance_at as distance_at'
 use Rattle.row.proofs.distance_at.Statement as stated
 use Rattle.row.proofs.distance_at.Code as code
 use Rattle.row.proofs.distance_at.Code.Mir as mir
@@ -75,14 +75,14 @@ use Rattle.row.specs.Row.{asking_at}
 use Rattle.row.specs.Views.{is_keyboard, asked_at}
 use Rattle.row.specs.declared.AskedAt.{AskedAt}
 use Rattle.row.specs.declared.AskedAt.TheVariants.{NoKeyboard}
-use Rattle.row.proofs.Calling.{answers, IsKeyboard, is_keyboard_says, to-is-keyboard, goes_is_keyboard}
+use Rattle.row.proofs.Calling.{answers, IsKeyboard, is_keyboard_says, to_is_keyboard, goes_is_keyboard}
 use Rattle.row.proofs.Leaving.{then_of, Local, local, stacked, env, leave}
 use Rattle.row.proofs.Placed.{size, any_machine, within, offset_fits, asked_here, asked_none}
 use Rattle.row.specs.contracts.AskedAt as R
 use Rattle.row.proofs.AskedAt.TheLaws as R'
-use Rattle.row.proofs.is_keyboard.Symbol as is-keyboard-def
+use Rattle.row.proofs.is_keyboard.Symbol as is_keyboard_def
 use Rattle.row.proofs.is_keyboard.Symbol.{name as #row·is-keyboard}
-use Rattle.row.proofs.is_keyboard.Met as is-keyboard-thm
+use Rattle.row.proofs.is_keyboard.Met as is_keyboard_thm
 
 -- a machine's type, and its values in memory; those of times, of a stamp, of an answer
 abbrev M' : RattleType
@@ -100,7 +100,7 @@ stamp_vals = LL.vals E.the_type E'.the_laws
 abbrev asked_vals : AskedAt → List Val
 asked_vals = EL.vals R.the_type R'.the_laws
 
-abbrev stayed : Stays (distance-at'.ended).signature.params (distance-at'.ended).kept
+abbrev stayed : Stays (distance_at'.ended).signature.params (distance_at'.ended).kept
 stayed = (
   stay_none_slice (0 ∷ []) tt (plain (λ _. M')) yes,
   (
@@ -147,23 +147,23 @@ module _ {M : Type 1} {𝓤 : Ura M} (𝓛 : Logic 𝓤) (mem : Memory → SProp
   a = (x, (p, (times, (i, (t, tt)))))
 
   -- what the parameters are in memory
-  abbrev times-val : Val
-  times-val = LL.val TM.the_type TM'.the_laws times
+  abbrev times_val : Val
+  times_val = LL.val TM.the_type TM'.the_laws times
 
-  abbrev stamp-val : Val
-  stamp-val = LL.val E.the_type E'.the_laws t
+  abbrev stamp_val : Val
+  stamp_val = LL.val E.the_type E'.the_laws t
 
-  abbrev list-val : Val
-  list-val = slice_val p.ref_ptr (length p.now)
+  abbrev list_val : Val
+  list_val = slice_val p.ref_ptr (length p.now)
 
-  abbrev at : Vals distance-at'.signature (κ, (κ', tt))
-  at = (slice_val (b, o) n ∷ [], (list-val ∷ [], (times_vals times, (vint w64 i ∷ [], (stamp_vals t, tt)))))
+  abbrev at : Vals distance_at'.signature (κ, (κ', tt))
+  at = (slice_val (b, o) n ∷ [], (list_val ∷ [], (times_vals times, (vint w64 i ∷ [], (stamp_vals t, tt)))))
 
-  abbrev bound : (walk_of 𝓛 distance-at'.ended stayed (distance-at'.clauses 𝓛 mem run)).Ghost
+  abbrev bound : (walk_of 𝓛 distance_at'.ended stayed (distance_at'.clauses 𝓛 mem run)).Ghost
   bound = (((κ, (κ', tt)), (q, (q', tt)), tt, a, at), tt)
 
   abbrev Post : Val → SProp 𝓤
-  Post = (walk_of 𝓛 distance-at'.ended stayed (distance-at'.clauses 𝓛 mem run)).post bound
+  Post = (walk_of 𝓛 distance_at'.ended stayed (distance_at'.clauses 𝓛 mem run)).post bound
 
   abbrev lends : Lent
   lends = lent p.now times
@@ -172,40 +172,40 @@ module _ {M : Type 1} {𝓤 : Ura M} (𝓛 : Logic 𝓤) (mem : Memory → SProp
   state = get_or ys i any_machine
 
   -- the list of pairs, and the token of its lifetime
-  abbrev list-token : Item 𝓤
-  list-token = ‵ (flft κ' q') ⊛ ‵ ftrue
+  abbrev list_token : Item 𝓤
+  list_token = ‵ (flft κ' q') ⊛ ‵ ftrue
 
   abbrev Pairs : Fml
-  Pairs = (ShrSlice (named 1) κ' u32).own_val p (list-val ∷ [])
+  Pairs = (ShrSlice (named 1) κ' u32).own_val p (list_val ∷ [])
 
   -- what each callee's triple binds outside, and what it asks
-  abbrev to-ask : (Ask 𝓛 mem run).Ghost
-  to-ask = (
-    ((κ', tt), (q', tt), tt, (state, (p, (times, (t, tt)))), (vals_of state, (list-val ∷ [], (times_vals times, (stamp_vals t, tt))))),
+  abbrev to_ask : (Ask 𝓛 mem run).Ghost
+  to_ask = (
+    ((κ', tt), (q', tt), tt, (state, (p, (times, (t, tt)))), (vals_of state, (list_val ∷ [], (times_vals times, (stamp_vals t, tt))))),
     tt,
   )
 
   goes_ask : Is M' state (vals_of state) → ent 𝓤 (sep 𝓤 (sep 𝓤 (A.lft κ' q') (sem 𝓛 ftrue)) (sem 𝓛 Pairs))
-      ((Ask 𝓛 mem run).pre to-ask)
+      ((Ask 𝓛 mem run).pre to_ask)
   goes_ask g =
-      qed 𝓛 (list-token ∷ ‵ Pairs ∷ []) ∵ nothing ! $ owned ! E.the_row (Is E.the_row) (LL.makes E.the_type E'.the_plain 𝓛) t _ t_is $
+      qed 𝓛 (list_token ∷ ‵ Pairs ∷ []) ∵ nothing ! $ owned ! E.the_row (Is E.the_row) (LL.makes E.the_type E'.the_plain 𝓛) t _ t_is $
       fjoin ! $
       owned ! TM.the_row (Is TM.the_row) (LL.makes TM.the_type TM'.the_plain 𝓛) times _ times-is $ fjoin ! $ move ! (2 ∷ 0 ∷ []) $
       fjoin ! $ owned ! M' (Is M') (LL.makes T.the_type T'.the_plain 𝓛) state _ g $ fjoin ! $
       move ! (1 ∷ 0 ∷ []) $ join ! $ frame ! $ done !
 
-  abbrev to-not-asked : (NotAsked 𝓛 mem run).Ghost
-  to-not-asked = ((tt, tt, tt, tt, tt), tt)
+  abbrev to_not_asked : (NotAsked 𝓛 mem run).Ghost
+  to_not_asked = ((tt, tt, tt, tt, tt), tt)
 
-  goes_not_asked : ent 𝓤 (sem 𝓛 ftrue) ((NotAsked 𝓛 mem run).pre to-not-asked)
+  goes_not_asked : ent 𝓤 (sem 𝓛 ftrue) ((NotAsked 𝓛 mem run).pre to_not_asked)
   goes_not_asked = qed 𝓛 (‵ ftrue ∷ []) ∵ nothing ! $ join ! $ frame ! $ done !
 
   -- at exit the row and the list are owned as they were, and the answer is r
   exits : (r : AskedAt) → Is R.the_row r (asked_vals r) → asked_at r ≡ asking_at lends ys i t
-      → ent 𝓤 (⋆ 𝓛 (‵ ((ShrSlice (named 0) κ M').own_val x at.0) ∷ list-token ∷ ‵ (flft κ q) ∷ ‵ Pairs ∷ [])) (Post (only (asked_vals r)))
+      → ent 𝓤 (⋆ 𝓛 (‵ ((ShrSlice (named 0) κ M').own_val x at.0) ∷ list_token ∷ ‵ (flft κ q) ∷ ‵ Pairs ∷ [])) (Post (only (asked_vals r)))
   exits r g e =
-      qed 𝓛 (‵ ((ShrSlice (named 0) κ M').own_val x at.0) ∷ list-token ∷ ‵ (flft κ q) ∷ ‵ Pairs ∷ []) ∵
-      suffices ! _ (ends_at 𝓛 distance-at'.ended stayed (distance-at'.clauses 𝓛 mem run) bound (only (asked_vals r)) r
+      qed 𝓛 (‵ ((ShrSlice (named 0) κ M').own_val x at.0) ∷ list_token ∷ ‵ (flft κ q) ∷ ‵ Pairs ∷ []) ∵
+      suffices ! _ (ends_at 𝓛 distance_at'.ended stayed (distance_at'.clauses 𝓛 mem run) bound (only (asked_vals r)) r
       (tt, (tt, (tt, (tt, (tt, tt))))) (tt, (tt, (tt, (tt, (tt, tt)))))) $ says ! e $
       move ! (2 ∷ 1 ∷ []) $ join ! $ frame ! $
       nothing ! $ owned ! E.the_row (Is E.the_row) (LL.makes E.the_type E'.the_plain 𝓛) t _ t_is $ fjoin ! $
@@ -234,19 +234,19 @@ module _ {M : Type 1} {𝓤 : Ura M} (𝓛 : Logic 𝓤) (mem : Memory → SProp
       Then = any_q (after_seq 𝓤 H (Wp 𝓤 H C Λ E₀ mir.t-4 (at_return 𝓤 H E₀ Post)) (at_return 𝓤 H E₀ Post))
 
       -- the values of the parameters
-      abbrev row-val : Val
-      row-val = slice_val (b, o) n
+      abbrev row_val : Val
+      row_val = slice_val (b, o) n
 
       -- what stands under the locals
       abbrev Under : List (Item 𝓤)
       Under =
-          (‵ (flft κ q) ⊛ list-token) ∷ ‵ (owns (ShrSlice (named 0) κ M' ∷ ShrSlice (named 1) κ' u32 ∷ TM.the_row ∷ usize ∷ E.the_row ∷ [])
+          (‵ (flft κ q) ⊛ list_token) ∷ ‵ (owns (ShrSlice (named 0) κ M' ∷ ShrSlice (named 1) κ' u32 ∷ TM.the_row ∷ usize ∷ E.the_row ∷ [])
           a at) ∷ []
 
       -- where the branch begins: local i stands at 2 · (10 − i), then the tokens at 22, and what the parameters own
       abbrev Tested : List (Item 𝓤)
       Tested =
-          stacked 𝓛 (locals none (some row-val) (some list-val) (some times-val) (some (vint w64 i)) (some stamp-val)
+          stacked 𝓛 (locals none (some row_val) (some list_val) (some times_val) (some (vint w64 i)) (some stamp_val)
           (some (vbool (is_keyboard n i))) (some (vint w64 n)) none none none) Under
 
       -- in the row: the machine is copied out, and asked
@@ -260,7 +260,7 @@ module _ {M : Type 1} {𝓤 : Ura M} (𝓛 : Logic 𝓤) (mem : Memory → SProp
           rewrite ! 2 (λ (z : ℕ). ‵ (fat full_share ty_ptr l₉ 0 (vptr b z))) (sym (place_is size o i)) refl $
           -- the list is lent twice: to `ask`, and to the end
           move ! (23 ∷ []) $ fsplit ! $ fsplit ! $ move ! (1 ∷ []) $ fsplit ! $ move ! (3 ∷ []) $ fsplit ! $
-          use1 𝓛 (‵ Pairs ⊛ ‵ Pairs) ((shr_slice_copy 𝓛 (named 1) κ' u32).twice p (list-val ∷ [])) $ split ! $ move ! (28 ∷ []) $
+          use1 𝓛 (‵ Pairs ⊛ ‵ Pairs) ((shr_slice_copy 𝓛 (named 1) κ' u32).twice p (list_val ∷ [])) $ split ! $ move ! (28 ∷ []) $
           split ! $ move ! (6 ∷ 0 ∷ []) $
           -- the row is looked into, the machine there is read, and the row is shut
           looks_slice ! tt M' (Is M') (shows 𝓛 M') vals_of (LL.tells T.the_type T'.the_laws) (LL.copy T.the_type T'.the_copy 𝓛) ys
@@ -272,12 +272,12 @@ module _ {M : Type 1} {𝓤 : Ura M} (𝓛 : Logic 𝓤) (mem : Memory → SProp
           (init ! 11 refl ((LL.lawful T.the_type T'.the_laws 𝓛).typed state _ g).0) $
           elem_back ! M' s ys i any_machine (vals_of state) b o (within n i taken) $ shuts_slice ! tt M' s ys b o $
           -- [the token; the fractured borrow; tokens; list; list; the numbers; res; row's fact; _10 at 8; …]
-          move ! (2 ∷ 3 ∷ []) $ use2 𝓛 (raw ((Ask 𝓛 mem run).pre to-ask)) (goes_ask g) $
-          calls_at ! fm (Ask 𝓛 mem run) known-ask to-ask (and_then ! (load ! (from ! (stop !)) (look ! 7 refl))
+          move ! (2 ∷ 3 ∷ []) $ use2 𝓛 (raw ((Ask 𝓛 mem run).pre to_ask)) (goes_ask g) $
+          calls_at ! fm (Ask 𝓛 mem run) known-ask to_ask (and_then ! (load ! (from ! (stop !)) (look ! 7 refl))
           (and_then ! (load ! (from ! (stop !)) (look ! 23 refl))
           (and_then ! (load ! (from ! (stop !)) (look ! 21 refl))
           (and_then ! (load ! (from ! (stop !)) (look ! 17 refl)) (no_more !))))) (λ w₂.
-          answers R.the_row asked_vals (EL.tells R.the_type R'.the_laws) list-token w₂ (id⊢ 𝓤 _) (ask_says 𝓛 mem run κ' state p times t)
+          answers R.the_row asked_vals (EL.tells R.the_type R'.the_laws) list_token w₂ (id⊢ 𝓤 _) (ask_says 𝓛 mem run κ' state p times t)
           (λ d e₂ is₂.
           land ! (from ! (stop !)) (init ! 27 refl ((EL.lawful R.the_type R'.the_laws 𝓛 tt).typed d _ is₂).0) $
           returns_within ! Post refl (look ! 27 refl) $
@@ -289,8 +289,8 @@ module _ {M : Type 1} {𝓤 : Ura M} (𝓛 : Logic 𝓤) (mem : Memory → SProp
       -- not in the row: `not_asked` answers
       refuses : T (not (is_keyboard n i)) → Sq 𝓛 Tested (runs C Λ E₀ mir.t-4 (at_ret E₀ Post))
       refuses left =
-          nothing ! $ use1 𝓛 (raw ((NotAsked 𝓛 mem run).pre to-not-asked)) goes_not_asked $
-          calls_at ! fm (NotAsked 𝓛 mem run) known-not-asked to-not-asked (no_more !) (λ w₃.
+          nothing ! $ use1 𝓛 (raw ((NotAsked 𝓛 mem run).pre to_not_asked)) goes_not_asked $
+          calls_at ! fm (NotAsked 𝓛 mem run) known-not-asked to_not_asked (no_more !) (λ w₃.
           answers R.the_row asked_vals (EL.tells R.the_type R'.the_laws) (‵ ftrue) w₃ (id⊢ 𝓤 _) (not_asked_says 𝓛 mem run)
           (λ d e₃ is₃. drop ! $
           land ! (from ! (stop !)) (init ! 20 refl ((EL.lawful R.the_type R'.the_laws 𝓛 tt).typed d _ is₃).0) $
@@ -302,15 +302,15 @@ module _ {M : Type 1} {𝓤 : Ura M} (𝓛 : Logic 𝓤) (mem : Memory → SProp
           by ! (exits d is₃ (asked_none ys i lends (T_not (is_keyboard n i) left) t d e₃)))))
 
       -- the test
-      tests : Sq 𝓛 (stacked 𝓛 (locals none (some row-val) (some list-val) (some times-val) (some (vint w64 i)) (some stamp-val) none
+      tests : Sq 𝓛 (stacked 𝓛 (locals none (some row_val) (some list_val) (some times_val) (some (vint w64 i)) (some stamp_val) none
           none none none none) Under) (runs C Λ E₀ mir.t-1 (at_ret E₀ Post))
       tests =
           -- _7 = row.len(), and the call of `is_keyboard`
           assigns ! (of_opd ! (load ! (from ! (fld ! refl (stop !))) (look_in ! 18 (sub ! 1 refl (whole !))))) (from ! (stop !))
           (init ! 6 refl (tt, record { fits = room.0 })) $
-          nothing ! $ use1 𝓛 (raw ((IsKeyboard 𝓛 mem run).pre (to-is-keyboard 𝓛 mem run n i)))
+          nothing ! $ use1 𝓛 (raw ((IsKeyboard 𝓛 mem run).pre (to_is_keyboard 𝓛 mem run n i)))
           (goes_is_keyboard 𝓛 mem run n i room.0 i-fits) $
-          calls_at ! fm (IsKeyboard 𝓛 mem run) known-is-keyboard (to-is-keyboard 𝓛 mem run n i)
+          calls_at ! fm (IsKeyboard 𝓛 mem run) known-is-keyboard (to_is_keyboard 𝓛 mem run n i)
           (and_then ! (load ! (from ! (stop !)) (look ! 7 refl)) (and_then ! (load ! (from ! (stop !)) (look ! 13 refl)) (no_more !)))
           (λ w.
           answers bool bool_vals bool_Tells (‵ ftrue) w (id⊢ 𝓤 _) (is_keyboard_says 𝓛 mem run n i) (λ r e is. drop ! $
@@ -320,11 +320,11 @@ module _ {M : Type 1} {𝓤 : Ura M} (𝓛 : Logic 𝓤) (mem : Memory → SProp
           (λ taken. asks taken)
           (λ left. skips ! $ exec ! C Λ _ mir.t-4 (at_ret _ Post) $ refuses left)))
 
-    walk : ent 𝓤 (on_entry 𝓛 distance-at'.signature (κ, (κ', tt)) (q, (q', tt)) a at)
-        (WpFn 𝓤 H C Λ code.function (slice_val (b, o) n ∷ list-val ∷ times-val ∷ vint w64 i ∷ stamp-val ∷ []) Post)
+    walk : ent 𝓤 (on_entry 𝓛 distance_at'.signature (κ, (κ', tt)) (q, (q', tt)) a at)
+        (WpFn 𝓤 H C Λ code.function (slice_val (b, o) n ∷ list_val ∷ times_val ∷ vint w64 i ∷ stamp_val ∷ []) Post)
     walk =
-        qed 𝓛 ((‵ (flft κ q) ⊛ list-token) ∷ ‵ (owns (ShrSlice (named 0) κ M' ∷ ShrSlice (named 1) κ' u32 ∷ TM.the_row ∷ usize ∷ E.the_row
-        ∷ []) a at) ∷ []) ∵ enter ! C Λ code.function (slice_val (b, o) n ∷ list-val ∷ times-val ∷ vint w64 i ∷ stamp-val ∷ []) _ $
+        qed 𝓛 ((‵ (flft κ q) ⊛ list_token) ∷ ‵ (owns (ShrSlice (named 0) κ M' ∷ ShrSlice (named 1) κ' u32 ∷ TM.the_row ∷ usize ∷ E.the_row
+        ∷ []) a at) ∷ []) ∵ enter ! C Λ code.function (slice_val (b, o) n ∷ list_val ∷ times_val ∷ vint w64 i ∷ stamp_val ∷ []) _ $
         alloc1 ! (λ l₀. alloc1 ! (λ l₁. alloc1 ! (λ l₂. alloc1 ! (λ l₃.
         alloc1 ! (λ l₄. alloc1 ! (λ l₅. alloc1 ! (λ l₆. alloc1 ! (λ l₇. alloc1 ! (λ l₈. alloc1 ! (λ l₉. alloc1 ! (λ l₁₀. alloc0 ! $
         params1 ! $
@@ -340,9 +340,9 @@ module _ {M : Type 1} {𝓤 : Ura M} (𝓛 : Logic 𝓤) (mem : Memory → SProp
 
   distance_at_walks : (C : Calls 𝓤 H) (Λ : Loops 𝓤 H) → FmC 𝓤 H 𝓛.laws C → Triple 𝓤 (C #row·is-keyboard) (IsKeyboard 𝓛 mem run)
       → Triple 𝓤 (C #row·ask) (Ask 𝓛 mem run) → Triple 𝓤 (C #row·not-asked) (NotAsked 𝓛 mem run)
-      → Walks 𝓛 distance-at'.ended stayed (WpFn 𝓤 H C Λ code.function) (distance-at'.clauses 𝓛 mem run)
+      → Walks 𝓛 distance_at'.ended stayed (WpFn 𝓤 H C Λ code.function) (distance_at'.clauses 𝓛 mem run)
   distance_at_walks C Λ fm known-is-keyboard known-ask known-not-asked =
-      walked 𝓛 distance-at'.ended stayed (distance-at'.clauses 𝓛 mem run) (WpFn 𝓤 H C Λ code.function)
+      walked 𝓛 distance_at'.ended stayed (distance_at'.clauses 𝓛 mem run) (WpFn 𝓤 H C Λ code.function)
       (λ κs. (shr_slice_vals, (shr_slice_vals, (times_vals, (uint_vals w64, (stamp_vals, tt))))))
       (λ κs. (
         shr_slice_Tells (named 0) κs.0 M',
@@ -361,9 +361,9 @@ distance_at_meets : {M : Type 1} {𝓤 : Ura M} (𝓛 : Logic 𝓤) (mem : Memor
     (𝓣 : Tables 𝓤 𝓛.H)
     → Triple 𝓤 (𝓣.C #row·is-keyboard) (IsKeyboard 𝓛 mem run) → Triple 𝓤 (𝓣.C #row·ask) (Ask 𝓛 mem run)
     → Triple 𝓤 (𝓣.C #row·not-asked) (NotAsked 𝓛 mem run)
-    → Meets 𝓛 distance-at'.signature (WpFn 𝓤 𝓛.H 𝓣.C 𝓣.Λ code.function) (distance-at'.spec 𝓛 mem run)
+    → Meets 𝓛 distance_at'.signature (WpFn 𝓤 𝓛.H 𝓣.C 𝓣.Λ code.function) (distance_at'.spec 𝓛 mem run)
 distance_at_meets {𝓤 = 𝓤} 𝓛 mem run 𝓣 known-is-keyboard known-ask known-not-asked =
-    walk_Meets 𝓛 distance-at'.ended stayed (
+    walk_Meets 𝓛 distance_at'.ended stayed (
       Goes-none_slice 𝓛 2 (0 ∷ []) tt (plain (λ _. M')) yes,
       (
         Goes-none_slice 𝓛 2 (1 ∷ []) tt (plain (λ _. u32)) yes,
@@ -373,17 +373,17 @@ distance_at_meets {𝓤 = 𝓤} 𝓛 mem run 𝓣 known-is-keyboard known-ask kn
         ),
       ),
     )
-    (distance-at'.clauses 𝓛 mem run) (WpFn 𝓤 𝓛.H 𝓣.C 𝓣.Λ code.function) (WpFn-mono 𝓤 𝓛.H 𝓛.laws 𝓣 code.function)
+    (distance_at'.clauses 𝓛 mem run) (WpFn 𝓤 𝓛.H 𝓣.C 𝓣.Λ code.function) (WpFn-mono 𝓤 𝓛.H 𝓛.laws 𝓣 code.function)
     (distance_at_walks 𝓛 mem run 𝓣.C 𝓣.Λ (fm_of 𝓤 𝓛.H 𝓛.laws 𝓣) known-is-keyboard known-ask known-not-asked)
 
 pub distance_at_spec : {M : Type 1} → stated.statement M
 unfolding code.routine tables_of
 distance_at_spec 𝓤 𝓛 𝓜 𝓡 =
-    entered 𝓤 𝓛.H (triple_of 𝓛 distance-at'.signature (distance-at'.spec 𝓛 𝓜.mem 𝓡.run))
+    entered 𝓤 𝓛.H (triple_of 𝓛 distance_at'.signature (distance_at'.spec 𝓛 𝓜.mem 𝓡.run))
     (tables 𝓤 𝓛.H 𝓜 𝓡 code.env).C (tables 𝓤 𝓛.H 𝓜 𝓡 code.env).Λ #row·distance-at code.function (code.unfolded 𝓤 𝓛.H 𝓜 𝓡)
     (distance_at_meets 𝓛 𝓜.mem 𝓡.run (tables_of 𝓤 𝓛.H 𝓜 (tables 𝓤 𝓛.H 𝓜 𝓡 code.env))
-    (cited 𝓤 𝓛.H (IsKeyboard 𝓛 𝓜.mem 𝓡.run) 𝓜 𝓡 code.env #row·is-keyboard is-keyboard-def.routine code.calls-row::is-keyboard
-    (is-keyboard-thm.met 𝓤 𝓛 𝓜 𝓡))
-    (cited 𝓤 𝓛.H (Ask 𝓛 𝓜.mem 𝓡.run) 𝓜 𝓡 code.env #row·ask ask-def.routine code.calls-row::ask (ask-thm.met 𝓤 𝓛 𝓜 𝓡))
-    (cited 𝓤 𝓛.H (NotAsked 𝓛 𝓜.mem 𝓡.run) 𝓜 𝓡 code.env #row·not-asked not-asked-def.routine code.calls-row::not-asked
-    (not-asked-thm.met 𝓤 𝓛 𝓜 𝓡)))
+    (cited 𝓤 𝓛.H (IsKeyboard 𝓛 𝓜.mem 𝓡.run) 𝓜 𝓡 code.env #row·is-keyboard is_keyboard_def.routine code.calls-row::is-keyboard
+    (is_keyboard_thm.met 𝓤 𝓛 𝓜 𝓡))
+    (cited 𝓤 𝓛.H (Ask 𝓛 𝓜.mem 𝓡.run) 𝓜 𝓡 code.env #row·ask ask_def.routine code.calls-row::ask (ask_thm.met 𝓤 𝓛 𝓜 𝓡))
+    (cited 𝓤 𝓛.H (NotAsked 𝓛 𝓜.mem 𝓡.run) 𝓜 𝓡 code.env #row·not-asked not_asked_def.routine code.calls-row::not-asked
+    (not_asked_thm.met 𝓤 𝓛 𝓜 𝓡)))

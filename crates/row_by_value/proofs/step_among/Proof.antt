@@ -73,10 +73,10 @@ use Rattle.row.proofs.Told.TheLaws as RA'
 use Rattle.row_by_value.specs.declared.Among.{Among}
 use Rattle.row_by_value.specs.contracts.Among as AM
 use Rattle.row_by_value.proofs.Among.TheLaws as AM'
-use Rattle.row.specs.contracts.step_at as step-at'
-use Rattle.row.proofs.step_at.Symbol as step-at-def
+use Rattle.row.specs.contracts.step_at as step_at'
+use Rattle.row.proofs.step_at.Symbol as step_at_def
 use Rattle.row.proofs.step_at.Symbol.{name as #row·step-at}
-use Rattle.row.proofs.step_at.Met as step-at-thm
+use Rattle.row.proofs.step_at.Met as step_at_thm
 use Rattle.row_by_value.specs.contracts.step_among.Key.{name as #among·step-among}
 use Rattle.row_by_value.specs.contracts.step_among as after
 use Rattle.row_by_value.proofs.step_among.Statement as stated
@@ -111,7 +111,7 @@ stayed = (
 )
 
 abbrev StepAt : {M : Type 1} {𝓤 : Ura M} (𝓛 : Logic 𝓤) (mem : Memory → SProp 𝓤) (run : Routine → Fun 𝓤) → Contract 𝓤
-StepAt 𝓛 mem run = triple_of 𝓛 step-at'.signature (step-at'.spec 𝓛 mem run)
+StepAt 𝓛 mem run = triple_of 𝓛 step_at'.signature (step_at'.spec 𝓛 mem run)
 
 -- an array in a local is its elements side by side, and back
 module _ {M : Type 1} {𝓤 : Ura M} (𝓛 : Logic 𝓤) (l : ℕ) where
@@ -159,11 +159,11 @@ module _ {M : Type 1} {𝓤 : Ura M} (𝓛 : Logic 𝓤) (mem : Memory → SProp
   abbrev a : Arg
   a = (ys, (p, (times, (i, (ev, tt)))))
 
-  abbrev list-val : Val
-  list-val = slice_val p.ref_ptr (length p.now)
+  abbrev list_val : Val
+  list_val = slice_val p.ref_ptr (length p.now)
 
   abbrev at : Vals after.signature (κ, tt)
-  at = (vals_of ys, (list-val ∷ [], (times_vals times, (vint w64 i ∷ [], (event_vals ev, tt)))))
+  at = (vals_of ys, (list_val ∷ [], (times_vals times, (vint w64 i ∷ [], (event_vals ev, tt)))))
 
   abbrev bound : (walk_of 𝓛 after.ended stayed (after.clauses 𝓛 mem run)).Ghost
   bound = (((κ, tt), (q, tt), tt, a, at), tt)
@@ -173,7 +173,7 @@ module _ {M : Type 1} {𝓤 : Ura M} (𝓛 : Logic 𝓤) (mem : Memory → SProp
 
   -- the list of pairs, and the token of its lifetime
   abbrev Pairs : Fml
-  Pairs = (ShrSlice (named 0) κ u32).own_val p (list-val ∷ [])
+  Pairs = (ShrSlice (named 0) κ u32).own_val p (list_val ∷ [])
 
   abbrev Token : Item 𝓤
   Token = ‵ (flft κ q) ⊛ ‵ ftrue
@@ -192,7 +192,7 @@ module _ {M : Type 1} {𝓤 : Ura M} (𝓛 : Logic 𝓤) (mem : Memory → SProp
       (full_share, (q, tt)),
       tt,
       (x l γ, (p, (times, (i, (ev, tt))))),
-      (slice_val (l, 0) 16 ∷ [], (list-val ∷ [], (times_vals times, (vint w64 i ∷ [], (event_vals ev, tt))))),
+      (slice_val (l, 0) 16 ∷ [], (list_val ∷ [], (times_vals times, (vint w64 i ∷ [], (event_vals ev, tt))))),
     ),
     tt,
   )
@@ -254,11 +254,11 @@ module _ {M : Type 1} {𝓤 : Ura M} (𝓛 : Logic 𝓤) (mem : Memory → SProp
       abbrev E₀ : Env 𝓤 H
       E₀ = env 𝓛 (locals none none none none none none none none none none none)
 
-      abbrev event-val : Val
-      event-val = LL.val E.the_type E'.the_laws ev
+      abbrev event_val : Val
+      event_val = LL.val E.the_type E'.the_laws ev
 
-      abbrev times-val : Val
-      times-val = LL.val TM.the_type TM'.the_laws times
+      abbrev times_val : Val
+      times_val = LL.val TM.the_type TM'.the_laws times
 
       -- where the array is back, at zs, and `told` holds r: what holds the array stands apart from what frees it
       abbrev Back : Told → List Machine → (z : Item 𝓤) → List (Item 𝓤)
@@ -269,8 +269,8 @@ module _ {M : Type 1} {𝓤 : Ura M} (𝓛 : Logic 𝓤) (mem : Memory → SProp
           ∷ local (slice_ty (ty_ref erased mut (pointee R.written))) l₉ (some (slice_val (l₆, 0) 16)) ∷ local (ty_array T'.mir 16) l₁₀ none
           ∷ [])
           (‵ (fdies (ty_array T'.mir 16) l₆) ∷ stacked 𝓛 (local AM'.mir l₀ none ∷ local (ty_array T'.mir 16) l₁ (some (val_of ys))
-          ∷ local (slice_ty (ty_ref (named 0) imm (ty_int w32))) l₂ (some list-val) ∷ local TM'.mir l₃ (some times-val)
-          ∷ local (ty_int w64) l₄ (some (vint w64 i)) ∷ local E'.mir l₅ (some event-val) ∷ []) [])
+          ∷ local (slice_ty (ty_ref (named 0) imm (ty_int w32))) l₂ (some list_val) ∷ local TM'.mir l₃ (some times_val)
+          ∷ local (ty_int w64) l₄ (some (vint w64 i)) ∷ local E'.mir l₅ (some event_val) ∷ []) [])
 
       ends : (r : Told) (zs : List Machine) → Is Ra.the_row r (LL.vals Ra.the_type RA'.the_laws r) → Is Row zs (vals_of zs) → Says r zs
           → (z : Item 𝓤)
@@ -287,7 +287,7 @@ module _ {M : Type 1} {𝓤 : Ura M} (𝓛 : Logic 𝓤) (mem : Memory → SProp
           leave 𝓛 (locals (some _) (some _) (some _) (some _) (some _) (some _) (some _) (some _) (some _) (some _) (some _)) _ _
           (keep ! (0 ∷ 2 ∷ []) $ by ! (exits r zs made e))
 
-      lends : Sq 𝓛 (stacked 𝓛 (locals none (some (val_of ys)) (some list-val) (some times-val) (some (vint w64 i)) (some event-val) none
+      lends : Sq 𝓛 (stacked 𝓛 (locals none (some (val_of ys)) (some list_val) (some times_val) (some (vint w64 i)) (some event_val) none
           none none none none) (Token ∷ ‵ Pairs ∷ [])) (runs C Λ E₀ mir.t-1 (at_ret E₀ Post))
       lends =
           assigns ! (of_opd ! (load ! (from ! (stop !)) (look ! 18 refl))) (from ! (stop !)) (init ! 8 refl (typed ys g)) $
@@ -302,7 +302,7 @@ module _ {M : Type 1} {𝓤 : Ura M} (𝓛 : Logic 𝓤) (mem : Memory → SProp
           rewrite ! 0 (λ (m : ℕ). ‵ ((MutSlice (named 0) (α ∷ []) R).own_val (x l₆ γ) (slice_val (l₆, 0) m ∷ []))) long refl $
           -- [the slice; the lender's part; its token; _10 at 3; _9 at 5; _8 at 7; _7 at 9; what frees _6 at 11; _5 at 12; …; _0 at
           -- 22; the token at 24; the list]
-          move ! (25 ∷ []) $ use1 𝓛 (‵ Pairs ⊛ ‵ Pairs) ((shr_slice_copy 𝓛 (named 0) κ u32).twice p (list-val ∷ [])) $ split ! $
+          move ! (25 ∷ []) $ use1 𝓛 (‵ Pairs ⊛ ‵ Pairs) ((shr_slice_copy 𝓛 (named 0) κ u32).twice p (list_val ∷ [])) $ split ! $
           move ! (4 ∷ 26 ∷ []) $ join ! $ move ! (0 ∷ 3 ∷ 1 ∷ []) $ use3 𝓛 (raw ((StepAt 𝓛 mem run).pre (to_step l₆ (α ∷ []) γ)))
           (goes_step l₆ (α ∷ []) γ) $
           -- [what `step_at` asks; the list; the lender's part; _10 at 3; …]
@@ -313,10 +313,10 @@ module _ {M : Type 1} {𝓤 : Ura M} (𝓛 : Logic 𝓤) (mem : Memory → SProp
           (and_then ! (load ! (from ! (stop !)) (look ! 14 refl))
           (and_then ! (load ! (from ! (stop !)) (look ! 12 refl)) (no_more !)))))) (λ w.
           use1 𝓛 (later (Kit.some (λ (r : Told). ((‵ (flft (α ∷ []) full_share) ⊛ Token) ⊛ ‵ ((Ra.the_row).own_val r (w ∷ []))) ⊛ raw
-          (ensured 𝓛 step-at'.ended (step-at'.clauses 𝓛 mem run) (α ∷ [], (κ, tt)) (x l₆ γ, (p, (times, (i, (ev, tt))))) tt
+          (ensured 𝓛 step_at'.ended (step_at'.clauses 𝓛 mem run) (α ∷ [], (κ, tt)) (x l₆ γ, (p, (times, (i, (ev, tt))))) tt
           r)))) (id⊢ 𝓤 _) $ await ! tt $ pick ! (λ r.
           split ! $ move ! (1 ∷ []) $ use1 𝓛 (Kit.some (λ (zs : Lasts). ‵
-          (lasts step-at'.ended (α ∷ [], (κ, tt)) (x l₆ γ, (p, (times, (i, (ev, tt))))) zs) ⊛ raw (fact 𝓤 (Says r zs.0))))
+          (lasts step_at'.ended (α ∷ [], (κ, tt)) (x l₆ γ, (p, (times, (i, (ev, tt))))) zs) ⊛ raw (fact 𝓤 (Says r zs.0))))
           (id⊢ 𝓤 _) $ pick ! (λ zs.
           split ! $ move ! (1 ∷ []) $ heard ! (Says r zs.0) (λ e. fsplit ! $ fsplit ! $ move ! (1 ∷ []) $ feq_l ! (λ l.
           -- [the last list; …; the tokens and the result; the list; the lender's part; _10 at 5; …]
@@ -332,11 +332,11 @@ module _ {M : Type 1} {𝓤 : Ura M} (𝓛 : Logic 𝓤) (mem : Memory → SProp
           ends r zs.0 (subst (Is Ra.the_row r) (LL.tells Ra.the_type RA'.the_laws r _ is) is) u e _)))))))))
 
     walk : ent 𝓤 (on_entry 𝓛 after.signature (κ, tt) (q, tt) a at)
-        (WpFn 𝓤 H C Λ code.function (val_of ys ∷ list-val ∷ LL.val TM.the_type TM'.the_laws times ∷ vint w64 i
+        (WpFn 𝓤 H C Λ code.function (val_of ys ∷ list_val ∷ LL.val TM.the_type TM'.the_laws times ∷ vint w64 i
         ∷ LL.val E.the_type E'.the_laws ev ∷ []) Post)
     walk =
         qed 𝓛 (Token ∷ ‵ (owns (Row ∷ ShrSlice (named 0) κ u32 ∷ TM.the_row ∷ usize ∷ E.the_row ∷ []) a at) ∷ []) ∵
-        enter ! C Λ code.function (val_of ys ∷ list-val ∷ LL.val TM.the_type TM'.the_laws times ∷ vint w64 i
+        enter ! C Λ code.function (val_of ys ∷ list_val ∷ LL.val TM.the_type TM'.the_laws times ∷ vint w64 i
         ∷ LL.val E.the_type E'.the_laws ev ∷ []) _ $
         alloc1 ! (λ l₀. alloc1 ! (λ l₁. alloc1 ! (λ l₂. alloc1 ! (λ l₃.
         alloc1 ! (λ l₄. alloc1 ! (λ l₅. alloc1 ! (λ l₆. alloc1 ! (λ l₇. alloc1 ! (λ l₈. alloc1 ! (λ l₉. alloc1 ! (λ l₁₀. alloc0 ! $
@@ -395,5 +395,5 @@ step_among_spec 𝓤 𝓛 𝓜 𝓡 =
     entered 𝓤 𝓛.H (triple_of 𝓛 after.signature (after.spec 𝓛 𝓜.mem 𝓡.run))
     (tables 𝓤 𝓛.H 𝓜 𝓡 code.env).C (tables 𝓤 𝓛.H 𝓜 𝓡 code.env).Λ #among·step-among code.function (code.unfolded 𝓤 𝓛.H 𝓜 𝓡)
     (after_meets 𝓛 𝓜.mem 𝓡.run (tables_of 𝓤 𝓛.H 𝓜 (tables 𝓤 𝓛.H 𝓜 𝓡 code.env))
-    (cited 𝓤 𝓛.H (StepAt 𝓛 𝓜.mem 𝓡.run) 𝓜 𝓡 code.env #row·step-at step-at-def.routine code.calls-row::step-at
-    (step-at-thm.met 𝓤 𝓛 𝓜 𝓡)))
+    (cited 𝓤 𝓛.H (StepAt 𝓛 𝓜.mem 𝓡.run) 𝓜 𝓡 code.env #row·step-at step_at_def.routine code.calls-row::step-at
+    (step_at_thm.met 𝓤 𝓛 𝓜 𝓡)))

@@ -46,9 +46,9 @@ use Rattle.keyboard.proofs.DistanceAnswer.TheLaws as R'
 use Rattle.row.proofs.Leaving.{local, leave}
 use Rattle.keyboard_row.proofs.Walking.{M'}
 use Rattle.keyboard_row.specs.contracts.trabeculon_row_distance as passed
-use Rattle.keyboard_row.proofs.trabeculon_row_distance.Symbol as passed-def
+use Rattle.keyboard_row.proofs.trabeculon_row_distance.Symbol as passed_def
 use Rattle.keyboard_row.proofs.trabeculon_row_distance.Symbol.{name as #keyboard-row·trabeculon-row-distance}
-use Rattle.keyboard_row.proofs.trabeculon_row_distance.Met as passed-thm
+use Rattle.keyboard_row.proofs.trabeculon_row_distance.Met as passed_thm
 use Rattle.trabeculon.specs.contracts.trabeculon_row_distance.Key.{name as #own}
 use Rattle.trabeculon.specs.contracts.trabeculon_row_distance as own
 use Rattle.trabeculon.proofs.trabeculon_row_distance.Statement as stated
@@ -65,14 +65,14 @@ module _ {M : Type 1} {𝓤 : Ura M} (𝓛 : Logic 𝓤) (mem : Memory → SProp
     (i-fits : i < 2 ^ 32) (t_is : Is S.the_row t (LL.vals S.the_type S'.the_laws t)) where
   open 𝓛 use {H}
 
-  abbrev row-val : Val
-  row-val = slice_val row.ref_ptr (length row.now)
+  abbrev row_val : Val
+  row_val = slice_val row.ref_ptr (length row.now)
 
-  abbrev p-val : Val
-  p-val = slice_val p.ref_ptr (length p.now)
+  abbrev p_val : Val
+  p_val = slice_val p.ref_ptr (length p.now)
 
-  abbrev t-val : Val
-  t-val = LL.val S.the_type S'.the_laws t
+  abbrev t_val : Val
+  t_val = LL.val S.the_type S'.the_laws t
 
   abbrev Arg : Type 0
   Arg = Bor (List MachineNumbers) × (Bor (List ℕ) × (ℕ × (ℕ × (ℕ × (Stamp × (Unit {0}))))))
@@ -81,13 +81,13 @@ module _ {M : Type 1} {𝓤 : Ura M} (𝓛 : Logic 𝓤) (mem : Memory → SProp
   a = (row, (p, (s, (pc, (i, (t, tt))))))
 
   abbrev at : Vals passed.signature (κ, (κ', tt))
-  at = (row-val ∷ [], (p-val ∷ [], (vint w16 s ∷ [], (vint w8 pc ∷ [], (vint w32 i ∷ [], (LL.vals S.the_type S'.the_laws t, tt))))))
+  at = (row_val ∷ [], (p_val ∷ [], (vint w16 s ∷ [], (vint w8 pc ∷ [], (vint w32 i ∷ [], (LL.vals S.the_type S'.the_laws t, tt))))))
 
-  abbrev to-passed : (Passed 𝓛 mem run).Ghost
-  to-passed = (((κ, (κ', tt)), (q, (q', tt)), tt, a, at), tt)
+  abbrev to_passed : (Passed 𝓛 mem run).Ghost
+  to_passed = (((κ, (κ', tt)), (q, (q', tt)), tt, a, at), tt)
 
   abbrev Post : Val → SProp 𝓤
-  Post = (Passed 𝓛 mem run).post to-passed
+  Post = (Passed 𝓛 mem run).post to_passed
 
   -- what it gives back: the tokens, the answer and what is ensured
   abbrev Back : DistanceAnswer → Val → Item 𝓤
@@ -105,23 +105,23 @@ module _ {M : Type 1} {𝓤 : Ura M} (𝓛 : Logic 𝓤) (mem : Memory → SProp
   Entry = (‵ (flft κ q) ⊛ ‵ (flft κ' q') ⊛ ‵ ftrue) ∷ ‵ (owns (ShrSlice (named 0) κ M' ∷ ShrSlice (named 1) κ' u32 ∷ u16 ∷ u8 ∷ u32 ∷
       S.the_row ∷ []) a at) ∷ []
 
-  goes : ent 𝓤 (⋆ 𝓛 Entry) ((Passed 𝓛 mem run).pre to-passed)
+  goes : ent 𝓤 (⋆ 𝓛 Entry) ((Passed 𝓛 mem run).pre to_passed)
   goes = qed 𝓛 Entry ∵ join ! $ frame ! $ done !
 
   module _ (C : Calls 𝓤 H) (Λ : Loops 𝓤 H) (fm : FmC 𝓤 H 𝓛.laws C)
       (known : Triple 𝓤 (C #keyboard-row·trabeculon-row-distance) (Passed 𝓛 mem run)) where
     walk : ent 𝓤 (on_entry 𝓛 passed.signature (κ, (κ', tt)) (q, (q', tt)) a at)
-        (WpFn 𝓤 H C Λ code.function (row-val ∷ p-val ∷ vint w16 s ∷ vint w8 pc ∷ vint w32 i ∷ t-val ∷ []) Post)
+        (WpFn 𝓤 H C Λ code.function (row_val ∷ p_val ∷ vint w16 s ∷ vint w8 pc ∷ vint w32 i ∷ t_val ∷ []) Post)
     walk =
-        qed 𝓛 Entry ∵ enter ! C Λ code.function (row-val ∷ p-val ∷ vint w16 s ∷ vint w8 pc ∷ vint w32 i ∷ t-val ∷ []) _ $
+        qed 𝓛 Entry ∵ enter ! C Λ code.function (row_val ∷ p_val ∷ vint w16 s ∷ vint w8 pc ∷ vint w32 i ∷ t_val ∷ []) _ $
         alloc1 ! (λ l₀. alloc1 ! (λ l₁. alloc1 ! (λ l₂. alloc1 ! (λ l₃.
         alloc1 ! (λ l₄. alloc1 ! (λ l₅. alloc1 ! (λ l₆. alloc0 ! $ params1 ! $
         pass1 ! (init ! 10 refl (tt, (tt, (record { fits = room.0 }, tt)))) $
         pass1 ! (init ! 8 refl (tt, (tt, (record { fits = p-room.0 }, tt)))) $ pass1 ! (init ! 6 refl (tt, record { fits = s-fits })) $
         pass1 ! (init ! 4 refl (tt, record { fits = pc-fits })) $ pass1 ! (init ! 2 refl (tt, record { fits = i-fits })) $
         pass1 ! (init ! 0 refl ((LL.lawful S.the_type S'.the_laws 𝓛).typed t _ t_is).0) $ pass0 ! $
-        move ! (14 ∷ 15 ∷ []) $ use2 𝓛 (raw ((Passed 𝓛 mem run).pre to-passed)) goes $
-        calls_at ! fm (Passed 𝓛 mem run) known to-passed (and_then ! (load ! (from ! (stop !)) (look ! 11 refl))
+        move ! (14 ∷ 15 ∷ []) $ use2 𝓛 (raw ((Passed 𝓛 mem run).pre to_passed)) goes $
+        calls_at ! fm (Passed 𝓛 mem run) known to_passed (and_then ! (load ! (from ! (stop !)) (look ! 11 refl))
         (and_then ! (load ! (from ! (stop !)) (look ! 9 refl)) (and_then ! (load ! (from ! (stop !)) (look ! 7 refl))
         (and_then ! (load ! (from ! (stop !)) (look ! 5 refl)) (and_then ! (load ! (from ! (stop !)) (look ! 3 refl))
         (and_then ! (load ! (from ! (stop !)) (look ! 1 refl)) (no_more !))))))) (λ w.
@@ -166,5 +166,5 @@ trabeculon_row_distance_spec 𝓤 𝓛 𝓜 𝓡 =
     entered 𝓤 𝓛.H (triple_of 𝓛 own.signature (own.spec 𝓛 𝓜.mem 𝓡.run))
     (tables 𝓤 𝓛.H 𝓜 𝓡 code.env).C (tables 𝓤 𝓛.H 𝓜 𝓡 code.env).Λ #own code.function (code.unfolded 𝓤 𝓛.H 𝓜 𝓡)
     (meets 𝓛 𝓜.mem 𝓡.run (tables_of 𝓤 𝓛.H 𝓜 (tables 𝓤 𝓛.H 𝓜 𝓡 code.env))
-    (cited 𝓤 𝓛.H (Passed 𝓛 𝓜.mem 𝓡.run) 𝓜 𝓡 code.env #keyboard-row·trabeculon-row-distance passed-def.routine
-    code.calls-keyboard-row::trabeculon-row-distance (passed-thm.met 𝓤 𝓛 𝓜 𝓡)))
+    (cited 𝓤 𝓛.H (Passed 𝓛 𝓜.mem 𝓡.run) 𝓜 𝓡 code.env #keyboard-row·trabeculon-row-distance passed_def.routine
+    code.calls-keyboard-row::trabeculon-row-distance (passed_thm.met 𝓤 𝓛 𝓜 𝓡)))

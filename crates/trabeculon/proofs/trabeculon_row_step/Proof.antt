@@ -48,9 +48,9 @@ use Rattle.keyboard_row.proofs.RowStepAnswer.TheLaws as R'
 use Rattle.row.proofs.Leaving.{local, leave}
 use Rattle.keyboard_row.proofs.Walking.{M'}
 use Rattle.keyboard_row.specs.contracts.trabeculon_row_step as passed
-use Rattle.keyboard_row.proofs.trabeculon_row_step.Symbol as passed-def
+use Rattle.keyboard_row.proofs.trabeculon_row_step.Symbol as passed_def
 use Rattle.keyboard_row.proofs.trabeculon_row_step.Symbol.{name as #keyboard-row·trabeculon-row-step}
-use Rattle.keyboard_row.proofs.trabeculon_row_step.Met as passed-thm
+use Rattle.keyboard_row.proofs.trabeculon_row_step.Met as passed_thm
 use Rattle.trabeculon.specs.contracts.trabeculon_row_step.Key.{name as #own}
 use Rattle.trabeculon.specs.contracts.trabeculon_row_step as own
 use Rattle.trabeculon.proofs.trabeculon_row_step.Statement as stated
@@ -67,14 +67,14 @@ module _ {M : Type 1} {𝓤 : Ura M} (𝓛 : Logic 𝓤) (mem : Memory → SProp
     (i-fits : i < 2 ^ 32) (c-fits : c < 2 ^ 8) (k-fits : k < 2 ^ 8) (t_is : Is S.the_row t (LL.vals S.the_type S'.the_laws t)) where
   open 𝓛 use {H}
 
-  abbrev row-val : Val
-  row-val = slice_val row.ref_ptr (length row.now)
+  abbrev row_val : Val
+  row_val = slice_val row.ref_ptr (length row.now)
 
-  abbrev p-val : Val
-  p-val = slice_val p.ref_ptr (length p.now)
+  abbrev p_val : Val
+  p_val = slice_val p.ref_ptr (length p.now)
 
-  abbrev t-val : Val
-  t-val = LL.val S.the_type S'.the_laws t
+  abbrev t_val : Val
+  t_val = LL.val S.the_type S'.the_laws t
 
   abbrev Arg : Type 0
   Arg = Bor (List MachineNumbers) × (Bor (List ℕ) × (ℕ × (ℕ × (ℕ × (ℕ × (ℕ × (Stamp × (Unit {0}))))))))
@@ -84,9 +84,9 @@ module _ {M : Type 1} {𝓤 : Ura M} (𝓛 : Logic 𝓤) (mem : Memory → SProp
 
   abbrev at : Vals passed.signature (κ, (κ', tt))
   at = (
-    row-val ∷ [],
+    row_val ∷ [],
     (
-      p-val ∷ [],
+      p_val ∷ [],
       (
         vint w16 s ∷ [],
         (
@@ -97,11 +97,11 @@ module _ {M : Type 1} {𝓤 : Ura M} (𝓛 : Logic 𝓤) (mem : Memory → SProp
     ),
   )
 
-  abbrev to-passed : (Passed 𝓛 mem run).Ghost
-  to-passed = (((κ, (κ', tt)), (q, (q', tt)), tt, a, at), tt)
+  abbrev to_passed : (Passed 𝓛 mem run).Ghost
+  to_passed = (((κ, (κ', tt)), (q, (q', tt)), tt, a, at), tt)
 
   abbrev Post : Val → SProp 𝓤
-  Post = (Passed 𝓛 mem run).post to-passed
+  Post = (Passed 𝓛 mem run).post to_passed
 
   -- what it gives back: the tokens, the answer and what is ensured
   abbrev Back : RowStepAnswer → Val → Item 𝓤
@@ -119,15 +119,15 @@ module _ {M : Type 1} {𝓤 : Ura M} (𝓛 : Logic 𝓤) (mem : Memory → SProp
   Entry = (‵ (flft κ q) ⊛ ‵ (flft κ' q') ⊛ ‵ ftrue) ∷ ‵ (owns (MutSlice (named 0) κ M' ∷ ShrSlice (named 1) κ' u32 ∷ u16 ∷ u8 ∷ u32 ∷ u8 ∷
       u8 ∷ S.the_row ∷ []) a at) ∷ []
 
-  goes : ent 𝓤 (⋆ 𝓛 Entry) ((Passed 𝓛 mem run).pre to-passed)
+  goes : ent 𝓤 (⋆ 𝓛 Entry) ((Passed 𝓛 mem run).pre to_passed)
   goes = qed 𝓛 Entry ∵ join ! $ frame ! $ done !
 
   module _ (C : Calls 𝓤 H) (Λ : Loops 𝓤 H) (fm : FmC 𝓤 H 𝓛.laws C)
       (known : Triple 𝓤 (C #keyboard-row·trabeculon-row-step) (Passed 𝓛 mem run)) where
     walk : ent 𝓤 (on_entry 𝓛 passed.signature (κ, (κ', tt)) (q, (q', tt)) a at)
-        (WpFn 𝓤 H C Λ code.function (row-val ∷ p-val ∷ vint w16 s ∷ vint w8 pc ∷ vint w32 i ∷ vint w8 c ∷ vint w8 k ∷ t-val ∷ []) Post)
+        (WpFn 𝓤 H C Λ code.function (row_val ∷ p_val ∷ vint w16 s ∷ vint w8 pc ∷ vint w32 i ∷ vint w8 c ∷ vint w8 k ∷ t_val ∷ []) Post)
     walk =
-        qed 𝓛 Entry ∵ enter ! C Λ code.function (row-val ∷ p-val ∷ vint w16 s ∷ vint w8 pc ∷ vint w32 i ∷ vint w8 c ∷ vint w8 k ∷ t-val ∷
+        qed 𝓛 Entry ∵ enter ! C Λ code.function (row_val ∷ p_val ∷ vint w16 s ∷ vint w8 pc ∷ vint w32 i ∷ vint w8 c ∷ vint w8 k ∷ t_val ∷
         []) _ $
         alloc1 ! (λ l₀. alloc1 ! (λ l₁. alloc1 ! (λ l₂. alloc1 ! (λ l₃.
         alloc1 ! (λ l₄. alloc1 ! (λ l₅. alloc1 ! (λ l₆. alloc1 ! (λ l₇.
@@ -143,8 +143,8 @@ module _ {M : Type 1} {𝓤 : Ura M} (𝓛 : Logic 𝓤) (mem : Memory → SProp
         assigns ! (agg ! (and_then ! (load ! (from ! (stop !)) (look ! 2 refl))
         (and_then ! (load ! (from ! (fld ! refl (stop !))) (look_in ! 18 (sub ! 1 refl (whole !)))) (no_more !)))) (from ! (stop !))
         (init ! 0 refl (tt, (tt, (record { fits = room.0 }, tt)))) $
-        move ! (22 ∷ 23 ∷ []) $ use2 𝓛 (raw ((Passed 𝓛 mem run).pre to-passed)) goes $
-        calls_at ! fm (Passed 𝓛 mem run) known to-passed (and_then ! (load ! (from ! (stop !)) (look ! 1 refl))
+        move ! (22 ∷ 23 ∷ []) $ use2 𝓛 (raw ((Passed 𝓛 mem run).pre to_passed)) goes $
+        calls_at ! fm (Passed 𝓛 mem run) known to_passed (and_then ! (load ! (from ! (stop !)) (look ! 1 refl))
         (and_then ! (load ! (from ! (stop !)) (look ! 17 refl)) (and_then ! (load ! (from ! (stop !)) (look ! 15 refl))
         (and_then ! (load ! (from ! (stop !)) (look ! 13 refl)) (and_then ! (load ! (from ! (stop !)) (look ! 11 refl))
         (and_then ! (load ! (from ! (stop !)) (look ! 9 refl)) (and_then ! (load ! (from ! (stop !)) (look ! 7 refl))
@@ -207,5 +207,5 @@ trabeculon_row_step_spec 𝓤 𝓛 𝓜 𝓡 =
     entered 𝓤 𝓛.H (triple_of 𝓛 own.signature (own.spec 𝓛 𝓜.mem 𝓡.run))
     (tables 𝓤 𝓛.H 𝓜 𝓡 code.env).C (tables 𝓤 𝓛.H 𝓜 𝓡 code.env).Λ #own code.function (code.unfolded 𝓤 𝓛.H 𝓜 𝓡)
     (meets 𝓛 𝓜.mem 𝓡.run (tables_of 𝓤 𝓛.H 𝓜 (tables 𝓤 𝓛.H 𝓜 𝓡 code.env))
-    (cited 𝓤 𝓛.H (Passed 𝓛 𝓜.mem 𝓡.run) 𝓜 𝓡 code.env #keyboard-row·trabeculon-row-step passed-def.routine
-    code.calls-keyboard-row::trabeculon-row-step (passed-thm.met 𝓤 𝓛 𝓜 𝓡)))
+    (cited 𝓤 𝓛.H (Passed 𝓛 𝓜.mem 𝓡.run) 𝓜 𝓡 code.env #keyboard-row·trabeculon-row-step passed_def.routine
+    code.calls-keyboard-row::trabeculon-row-step (passed_thm.met 𝓤 𝓛 𝓜 𝓡)))

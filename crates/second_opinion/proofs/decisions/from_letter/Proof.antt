@@ -15,5 +15,5 @@ from_letter_spec =
     (λ c κs. search rules)
     (λ c.
     let a = c.before.before.before.before.args in
-    looked _ _ _ _ _ _ _ _ _ (opinions.letter-alone a.s a.letter) c.before.before.letter-due.ensures
-    c.before.ahead.ensures c.letter-alone.ensures))
+    looked _ _ _ _ _ _ _ _ _ (opinions.letter_alone a.s a.letter) c.before.before.letter-due.ensures
+    c.before.ahead.ensures c.letter_alone.ensures))

@@ -23,5 +23,5 @@ from_letter_first_spec =
     let a = o.args in
     let l = c.before.ahead.ensures in
     looked _ _ _ _ _ _ _ _ _
-    (λ (d : Option Stamp) (es : List Event). opinions.after (marks a.first) (opinions.letter-first a.s a.letter a.thumb d es))
-    c.before.before.letter-first-due.ensures l (c.letter-first.ensures _ _ o.requires.1.1 l.there)))
+    (λ (d : Option Stamp) (es : List Event). opinions.after (marks a.first) (opinions.letter_first a.s a.letter a.thumb d es))
+    c.before.before.letter-first-due.ensures l (c.letter_first.ensures _ _ o.requires.1.1 l.there)))

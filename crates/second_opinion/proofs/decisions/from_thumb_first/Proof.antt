@@ -15,5 +15,5 @@ from_thumb_first_spec =
     (λ c κs. search rules)
     (λ c.
     let a = c.before.before.before.before.args in
-    looked _ _ _ _ _ _ _ _ _ (opinions.thumb-first a.s a.thumb a.letter) c.before.before.thumb-first-due.ensures
-    c.before.ahead.ensures c.thumb-first.ensures))
+    looked _ _ _ _ _ _ _ _ _ (opinions.thumb_first a.s a.thumb a.letter) c.before.before.thumb-first-due.ensures
+    c.before.ahead.ensures c.thumb_first.ensures))

@@ -23,7 +23,7 @@ letter_alone_spec =
     (w.before.before.before.requires.0, (omega (arith, st.below), st.in_range)))
     (λ c.
     rw (c.before.before.before.before.seen.given.1, ← c.before.before.in_time.ensures, c.before.if1.true)
-    (after_none _ _ _ _ c.from-letter-first.ensures))
+    (after_none _ _ _ _ c.from_letter_first.ensures))
     (λ c κs. search rules)
     (λ c. rw c.enum_told.given.1 (ends _ _ _ _ _ refl))
     (λ c.

@@ -23,7 +23,7 @@ thumb_alone_spec =
     (w.before.before.before.requires.0, (omega (arith, st.below), st.in_range)))
     (λ c.
     rw (c.before.before.before.before.seen.given.1, ← c.before.before.in_time.ensures, c.before.if1.true)
-    c.from-thumb-first.ensures)
+    c.from_thumb_first.ensures)
     (λ c κs. search rules)
     (λ c κs. search rules)
     (λ c. rw c.enum_told.given.1 (ends _ _ _ _ _ refl))

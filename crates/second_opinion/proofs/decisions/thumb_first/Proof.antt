@@ -29,7 +29,7 @@ thumb_first_spec =
       c.before.before.if1.true,
       ← c.before.mark.ensures,
     )
-    c.from-letter-first.ensures)
+    c.from_letter_first.ensures)
     (λ c κs. search rules)
     (λ c.
     let w = c.before.before.before.before.before in
@@ -47,7 +47,7 @@ thumb_first_spec =
       ← c.before.before.is-short.ensures,
       c.before.if2.true,
     )
-    c.from-released.ensures)
+    c.from_released.ensures)
     (λ c κs. search rules)
     (λ c. rw c.enum_told.given.1 (ends _ _ _ _ _ refl))
     (λ c.

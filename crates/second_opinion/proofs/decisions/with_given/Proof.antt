@@ -23,4 +23,4 @@ with_given_spec =
     let h = c.before.heard-at.ensures in
     let o = c.before.before.before.before in
     let st = stands _ _ o.args.at _ o.requires.events (search rules) h.0 h.1 in
-    rw st.here c.from-thumb-first.ensures))
+    rw st.here c.from_thumb_first.ensures))

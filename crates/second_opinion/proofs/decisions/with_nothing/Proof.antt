@@ -24,7 +24,7 @@ with_nothing_spec =
     let h = c.before.before.heard-at.ensures in
     let o = c.before.before.before.before.before in
     let st = stands _ _ o.args.at _ o.requires.events (search rules) h.0 h.1 in
-    rw (st.here, eq-eqb _ 1 c.before.if2.true) c.from-letter.ensures)
+    rw (st.here, eq-eqb _ 1 c.before.if2.true) c.from_letter.ensures)
     (λ c. omega arith)
     (λ c.
     let h = c.before.before.heard-at.ensures in

@@ -15,5 +15,5 @@ with_thumb_spec =
     (λ c κs. search rules)
     (λ c.
     let a = c.before.before.before.before.args in
-    looked _ _ _ _ _ _ _ _ _ (opinions.thumb-alone a.s a.thumb) c.before.before.thumb-due.ensures
-    c.before.ahead.ensures c.thumb-alone.ensures))
+    looked _ _ _ _ _ _ _ _ _ (opinions.thumb_alone a.s a.thumb) c.before.before.thumb-due.ensures
+    c.before.ahead.ensures c.thumb_alone.ensures))
