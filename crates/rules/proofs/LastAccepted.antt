@@ -37,8 +37,10 @@ module _ (g : Lent) (s : Settings) where
 
   counts_along : {done : List Event} {m : Machine} → Counts done m → (es : List Event)
       → Counts (done ++ along g accepted_in m es) (after g m es)
-  counts_along c [] = rw append-nil c
-  counts_along c (e ∷ es) = let more = counts_along (counts_on c e) es in rw append_assoc at more
+  counts_along {done} {m} c [] = rw append-nil c
+  counts_along {done} {m} c (e ∷ es) =
+      let more = counts_along {done = done ++ accepted_in m e (step g m e)} {m = (step g m e).machine} (counts_on c e) es in
+      rw append_assoc at more
 
   is_fresh : {done : List Event} {m : Machine} → Counts done m → done ≡ [] → m ≡ fresh s
   is_fresh nothing_yet h = refl

@@ -370,10 +370,18 @@ module _ (g : Lent) (k : ℕ) where
     run_moved : {done : List Event} {m n : Machine} → StatesMoved s done m n → (es : List Event) → AllStay k es
         → (along g told_in n (moved_events k es) ≡ along g told_in m es)
         × StatesMoved s (done ++ along g accepted_in m es) (after g m es) (after g n (moved_events k es))
-    run_moved c [] h = (refl, rw append-nil c)
-    run_moved c (e ∷ es) h =
+    run_moved {done} {m} {n} c [] h = (refl, rw append-nil c)
+    run_moved {done} {m} {n} c (e ∷ es) h =
         let one = next_moved c e h.0 in
-        let more = run_moved one.1 es h.1 in
+        let more =
+        run_moved
+        {done = done ++ accepted_in m e (step g m e)}
+        {m = (step g m e).machine}
+        {n = (step g n (moved_event k e)).machine}
+        one.1
+        es
+        h.1
+        in
         (ap₂ ◌∷◌ one.0 more.0, rw append_assoc at more.1)
 
     states_equal : {done : List Event} {m n : Machine} → StatesMoved s done m n → n ≡ moved_state k done m

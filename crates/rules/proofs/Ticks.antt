@@ -161,7 +161,7 @@ starts_after g m (e ∷ es) t =
     by_test (λ (l : List Event). m.last.0 ≤ (first_stamp (l ++ along g key_event_in (taken g m e (acts_as m.held i)).machine es) t).0)
     (within 1 5 e.kind)
     (λ _. a.not_before)
-    (λ _. le_trans a.not_before (starts_after g _ es t h)))
+    (λ _. le_trans a.not_before (starts_after g (taken g m e (acts_as m.held i)).machine es t h)))
 
 -- an accepted key event acts, and the rest follows
 key_event_first : (g : Lent) (s : Settings) (t : Stamp) (h : ℕ) (e : Event) (i : Input) (ks : List Event) (y : Resting)

@@ -128,6 +128,7 @@ impl Settings {
 
     pub const PERCENT_MOST: u8 = 99;
 
+    #[tactic(auto, unfolding(crate::specs::Numbers::in_range))]
     pub fn in_range(self) -> bool
         ensures { result ≡ in_range self }
     {
