@@ -1,0 +1,6 @@
+-- `waits::alone` meets its contract.
+use borrow.Author.Rules.{rules}
+use Rattle.waits.proofs.alone.Goals as goal
+
+pub returns : goal.returns
+returns c = rw (← c.rest.ensures, ← c.share.ensures)

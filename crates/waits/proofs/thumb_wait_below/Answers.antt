@@ -1,0 +1,8 @@
+-- `waits::thumb_wait_below` meets its contract.
+use borrow.Author.Rules.{rules}
+use Rattle.rules.specs.Numbers.{B}
+use Rattle.waits.proofs.thumb_wait_below.Goals as goal
+
+pub returns : goal.returns
+unfolding B
+returns c = rw (← c.rest.ensures, ← c.share_below.ensures)
