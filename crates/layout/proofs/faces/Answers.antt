@@ -2,9 +2,8 @@
 use borrow.Author.Rules.{rules}
 use Rattle.rules.specs.Layout.{table}
 use Rattle.layout.specs.Column.{rows}
-use Rattle.layout.proofs.faces.Statement.{statement}
-use Rattle.layout.proofs.faces.Tie as tie
+use Rattle.layout.proofs.faces.Goals as goal
 
-pub faces_spec : {M : Type 1} → statement M
+pub returns : goal.returns
 unfolding rows table
-faces_spec = tie.close (tie.spec (λ c. search rules))
+returns c = search rules
