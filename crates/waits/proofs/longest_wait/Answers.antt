@@ -7,7 +7,7 @@ pub overflow_add-result : goal.overflow_add-result
 overflow_add-result c =
     let held : Held c.args.s = record { t = search rules; j = search rules; l = search rules } in
     let sum = W_at_most _ _ _ _ held c.first_wait-first.ensures c.character_first_wait.ensures c.longer-second.ensures in
-    rw sum (W_bound _ held)
+    rw sum (record { fits = W_bound _ held })
 
 pub returns : goal.returns
 returns c =
