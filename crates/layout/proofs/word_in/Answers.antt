@@ -3,10 +3,10 @@ use borrow.Author.Rules.{rules}
 use Rattle.layout.proofs.word_in.Goals as goal
 
 pub returns-in-Character : goal.returns-in-Character
-returns-in-Character c = rw (c.item-1.is, ← c.code_point_in.ensures)
+returns-in-Character c = rw (c.in-Character.is, ← c.code_point_in.ensures)
 
 pub returns-in-Mark : goal.returns-in-Mark
-returns-in-Mark c = rw (c.item-in-Mark-1.is, ← c.mark_word.ensures)
+returns-in-Mark c = rw (c.in-Mark.is, ← c.mark_word.ensures)
 
 pub returns-in-Together : goal.returns-in-Together
-returns-in-Together c = rw c.item-in-Together-1.is
+returns-in-Together c = rw c.in-Together.is

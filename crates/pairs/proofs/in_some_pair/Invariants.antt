@@ -1,0 +1,12 @@
+-- `pairs::in_some_pair` meets its contract. The loop's invariant: what the whole list answers is what the list from i on answers.
+use borrow.Author.Rules.{rules}
+use Prim.Native.Nat.{◌-◌}
+use lib.ListN.{length}
+use Rattle.pairs.proofs.Laws.{Seeking, seek_start, seek_first, seek_second, seek_on, seek_end}
+use Rattle.pairs.proofs.in_some_pair.Given as goal
+
+abbrev pub invariant-loop-i : goal.invariant-loop-i
+invariant-loop-i l = Seeking l.list l.k l.i
+
+abbrev pub decreases-loop-i : goal.decreases-loop-i
+decreases-loop-i l = length l.list - l.i
