@@ -1,0 +1,27 @@
+-- `states::late` meets its contract.
+use borrow.Author.Rules.{rules}
+use Rattle.states.proofs.late.Goals as goal
+
+pub returns-in-S1 : goal.returns-in-S1
+returns-in-S1 c = rw (c.in-S1.is, ← c.goes_to.ensures)
+
+pub returns-in-S2 : goal.returns-in-S2
+returns-in-S2 c = rw (c.in-S2.is, ← c.commits_plain.ensures)
+
+pub returns-in-S3 : goal.returns-in-S3
+returns-in-S3 c = rw (c.in-S3.is, ← c.commits_mark.ensures)
+
+pub returns-in-S4 : goal.returns-in-S4
+returns-in-S4 c = rw (c.in-S4.is, ← c.commits_chord.ensures)
+
+pub returns-in-S5 : goal.returns-in-S5
+returns-in-S5 c = rw (c.in-S5.is, ← c.commits_chord-in-S5.ensures)
+
+pub returns-in-S6 : goal.returns-in-S6
+returns-in-S6 c = rw (c.in-S6.is, ← c.commits_both.ensures)
+
+pub returns-in-S7 : goal.returns-in-S7
+returns-in-S7 c = rw (c.in-S7.is, ← c.commits_pair.ensures)
+
+pub returns-in-S8 : goal.returns-in-S8
+returns-in-S8 c = rw (c.in-S8.is, ← c.commits_two.ensures)

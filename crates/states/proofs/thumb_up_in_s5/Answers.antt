@@ -1,0 +1,16 @@
+-- `states::thumb_up_in_s5` meets its contract.
+use Rattle.states.proofs.thumb_up_in_s5.Goals as goal
+
+pub returns-then-short_overlap : goal.returns-then-short_overlap
+returns-then-short_overlap c = rw (
+  ← c.short_overlap.ensures,
+  c.if-short_overlap.true,
+  ← c.goes_to.ensures,
+)
+
+pub returns : goal.returns
+returns c = rw (
+  ← c.short_overlap.ensures,
+  c.if-short_overlap.false,
+  ← c.commits_chord.ensures,
+)
