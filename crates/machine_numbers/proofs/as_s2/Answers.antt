@@ -1,0 +1,25 @@
+-- `machine_numbers::as_s2` meets its contract.
+use Rattle.machine_numbers.specs.Fields.{as_S2}
+use Rattle.machine_numbers.proofs.as_s2.Goals as goal
+
+pub returns-then-both : goal.returns-then-both
+unfolding as_S2
+returns-then-both c = rw (
+  ← c.no_second.ensures,
+  ← c.no_thumb.ensures,
+  ← c.both.ensures,
+  ← c.no_release.ensures,
+  ← c.both-2.ensures,
+  c.if-both.true,
+)
+
+pub returns : goal.returns
+unfolding as_S2
+returns c = rw (
+  ← c.no_second.ensures,
+  ← c.no_thumb.ensures,
+  ← c.both.ensures,
+  ← c.no_release.ensures,
+  ← c.both-2.ensures,
+  c.if-both.false,
+)
