@@ -1,17 +1,10 @@
 -- `row::advance` meets its contract.
-use borrow.Author.Rules.{rules}
 use mathlib.Core.Path.{ap}
 use Rattle.rules.specs.GivenBack.{Answer}
-use Rattle.row.proofs.advance.Statement.{statement}
-use Rattle.row.proofs.advance.Tie as tie
+use Rattle.row.proofs.advance.Goals as goal
 
-pub advance_spec : {M : Type 1} → statement M
-advance_spec =
-    tie.close
-    (tie.spec
-    (λ c κs. search rules)
-    (λ c.
-    let gives = c.before.before.step.ensures in
+pub returns : goal.returns
+returns c = let gives = c.step-done.ensures in
     record {
       tells = record {
         number_is = ap (λ (a : Answer). a.number) gives.answer;
@@ -20,4 +13,4 @@ advance_spec =
         packed = gives.packed;
       };
       machine_is = ap (λ (a : Answer). a.machine) gives.answer;
-    }))
+    }
