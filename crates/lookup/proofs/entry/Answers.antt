@@ -3,13 +3,8 @@ use borrow.Author.Rules.{rules}
 use Rattle.rules.specs.Layout.{table}
 use Rattle.lookup.specs.Places.{place_of}
 use Rattle.lookup.proofs.Table.{entries, entry_at}
-use Rattle.lookup.proofs.entry.Statement.{statement}
-use Rattle.lookup.proofs.entry.Tie as tie
+use Rattle.lookup.proofs.entry.Goals as goal
 
-pub entry_spec : {M : Type 1} → statement M
+pub returns : goal.returns
 unfolding entries place_of table
-entry_spec =
-    tie.close
-    (tie.spec
-    (λ c. search rules)
-    (λ c. entry_at c.args.i (search rules)))
+returns c = entry_at c.args.i (search rules)
