@@ -1,5 +1,4 @@
 -- `decimals::extend` meets its contract.
-use borrow.Author.Rules.{rules}
 use borrow.Author.Tests.{le-leb, lt-leb}
 use Rattle.decimals.specs.Decimals.{extended}
 use Rattle.decimals.proofs.Digits.{digit_from}

@@ -1,8 +1,6 @@
 -- `decimals::parse` meets its contract: the digits passed make the number so far (`Read`).
 use borrow.Author.Rules.{rules}
-use Prim.Native.Nat.{◌-◌}
-use lib.ListN.{length}
-use Rattle.decimals.proofs.Digits.{none_read, Read, begun, ended, stops, goes_on}
+use Rattle.decimals.proofs.Digits.{none_read, begun, ended, stops, goes_on}
 use Rattle.decimals.proofs.parse.Goals as goal
 
 pub returns-then-bytes-eq0 : goal.returns-then-bytes-eq0

@@ -1,8 +1,7 @@
 -- `decimals::parse` meets its contract: the digits passed make the number so far (`Read`).
-use borrow.Author.Rules.{rules}
 use Prim.Native.Nat.{◌-◌}
 use lib.ListN.{length}
-use Rattle.decimals.proofs.Digits.{none_read, Read, begun, ended, stops, goes_on}
+use Rattle.decimals.proofs.Digits.{Read}
 use Rattle.decimals.proofs.parse.Given as goal
 
 abbrev pub invariant-loop-i : goal.invariant-loop-i
