@@ -15,7 +15,7 @@ use Rattle.preview.specs.Views.{packed_sendings}
 use Rattle.machine_numbers.specs.Fields.{numbers_of}
 use Rattle.keyboard.specs.Keyboard.{words_of, answer_numbers, answered_numbers, asked_numbers}
 use Rattle.keyboard.specs.KeyboardFacts.{answers}
-use Rattle.keyboard.specs.MovedKeyboard.{besides_machine, KeyboardMoved}
+use Rattle.keyboard.specs.MovedKeyboard.{besides_machine, KeyboardMovedStatement}
 use Rattle.keyboard.proofs.HandedOn.{keyboard_facts}
 use Rattle.keyboard.proofs.DistanceNumbers.{asks}
 
@@ -28,7 +28,7 @@ all_numbers : (g : Lent) (x : Machine) (es : List Event)
 all_numbers g x [] = refl
 all_numbers g x (e ∷ es) = ap (λ (l : List (List ℕ)). as_numbers (told (step g x e)) ∷ l) (all_numbers g (step g x e).machine es)
 
-pub keyboard_moved : KeyboardMoved
+pub keyboard_moved : KeyboardMovedStatement
 keyboard_moved g k s es stay first again rs moved run other =
     let m = clock_moved g k s es stay in
     let facts = keyboard_facts g in

@@ -34,8 +34,8 @@ pub record KeyboardMoved (g : Lent) (k : ℕ) (s : Settings) (es : List Event) (
   pub same_distance : (now : Stamp) → Stays k now → distance_numbers g after (later now k) ≡ distance_numbers g before now
 
 -- the statement: calls from opening on
-abbrev pub KeyboardMoved : Type 0
-KeyboardMoved =
+abbrev pub KeyboardMovedStatement : Type 0
+KeyboardMovedStatement =
     (g : Lent) (k : ℕ) (s : Settings) (es : List Event) → AllStay k es
     → (first again : OpenAnswer) (rs moved : List StepAnswer)
     → KeyboardRun g s first es rs

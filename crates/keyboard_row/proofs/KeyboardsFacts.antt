@@ -21,7 +21,7 @@ use Rattle.machine_numbers.specs.Fields.{named}
 use Rattle.machine_numbers.specs.Formed.{machine_at}
 use Rattle.machine_numbers.specs.declared.MachineNumbers.{MachineNumbers}
 use Rattle.machine_numbers.proofs.Forms.{at_named}
-use Rattle.keyboard.specs.Keyboard.{no_machine_number, refused_numbers, step_named, step_numbers, asked_numbers, distance_numbers}
+use Rattle.keyboard.specs.Keyboard.{no_machine_number, refused_numbers, step_named, step_numbers, asked_numbers}
 use Rattle.keyboard.specs.declared.DistanceAnswer.{DistanceAnswer}
 use Rattle.keyboard.specs.DistanceNumbers.{tick_at}
 use Rattle.keyboard.proofs.HandedOn.{call_answers, keyboard_facts}

@@ -34,7 +34,7 @@ use Rattle.row.specs.RowRuns.{RowEvent, events_of}
 use Rattle.keyboard_row.specs.Keyboards.{RowNumbers, row_step_numbers}
 use Rattle.keyboard_row.specs.KeyboardsFacts.{FoundNumbers}
 use Rattle.keyboard_row.specs.KeyboardsRuns.{RowCalls, no_more, call, RowHandedOn, own_answer, answers_of, OwnCalls}
-use Rattle.keyboard_row.specs.KeyboardsRuns.{IsolatedNumbers, OpenedInRowStatement, MovedInRow}
+use Rattle.keyboard_row.specs.KeyboardsRuns.{IsolatedNumbers, OpenedInRowStatement, MovedInRowStatement}
 use Rattle.keyboard_row.proofs.Finding.{step_here, distance_here}
 use Rattle.keyboard_row.proofs.KeyboardsFacts.{row_step_facts}
 
@@ -161,7 +161,7 @@ opened_in_row g k s first xs rs opened_as opened_well calls =
           rw at ((last_accepted g good s (opened_in_range s zero) (events_of k xs)).gives_5 e);
     }
 
-pub moved_in_row : MovedInRow
+pub moved_in_row : MovedInRowStatement
 moved_in_row g d k j s first xs ys rs qs opened_as opened_well c c' moved stay =
     let run = run_of g k s first xs rs opened_as opened_well c in
     let other-run = subst (λ (es : List Event). KeyboardRun g s first es (answers_of j ys qs)) moved

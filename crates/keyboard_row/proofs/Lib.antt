@@ -1,4 +1,3 @@
-pub mod Walking
 mod Finding
 mod Placed
 pub mod KeyboardsFacts

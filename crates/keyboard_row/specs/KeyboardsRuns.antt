@@ -140,8 +140,8 @@ pub record MovedInRow (g : Lent) (d k j : ℕ) (s : Settings) (f : MachineNumber
       → row_distance_numbers g other j (later now d) ≡ row_distance_numbers g row k now
 
 -- Two hosts that opened with the same settings, keyboard k of the one's row and keyboard j of the other's.
-abbrev pub MovedInRow : Type 0
-MovedInRow =
+abbrev pub MovedInRowStatement : Type 0
+MovedInRowStatement =
     (g : Lent) (d k j : ℕ) (s : Settings) (first : OpenAnswer) (xs ys : List RowEvent) (rs qs : List RowNumbers)
     → first ≡ open_numbers (opening (settings_of s.t s.j s.l s.solo)) → first.number ≡ 0
     → RowCalls g k first.machine xs rs → RowCalls g j first.machine ys qs

@@ -342,6 +342,8 @@ Lending ps (opened m) = ⊥
 Lending ps (running g m) = g.pairs ≡ ps
 
 lending_pairs : (ps : List Pair) (d : Desk) → Lending ps d → pairs_of d ≡ ps
+lending_pairs ps closed h = elim h [ ]
+lending_pairs ps (opened m) h = elim h [ ]
 lending_pairs ps (running g m) h = h
 
 abbrev LeadsTo : List Pair → RecordEffect → Type 0
@@ -367,6 +369,8 @@ module _ (room : ℕ) (cut : List ℕ) (ps : List Pair) where
 
   effect_lends : (d : Desk) (r : List ℕ) → Lending ps d → LeadsTo ps (record_effect d r)
   unfolding record_effect
+  effect_lends closed r h = elim h [ ]
+  effect_lends (opened m) r h = elim h [ ]
   effect_lends (running g m) r h = subst (λ (qs : List Pair). LeadsTo qs (by_event g m r)) h (event_lends g m r)
 
   record_lends : (x : Reading) (r : List ℕ) → Lends x → Lends (read_record room x r)

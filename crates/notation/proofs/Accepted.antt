@@ -1,10 +1,10 @@
 -- The records that the reader accepts, up to the first that it refuses: settings, a list, or an event whose kind and key are allowed. Their
 -- bytes, joined, are what stands before the offset that it answers.
-use Prim.Native.Nat.{ℕ, ◌+◌, ◌≤◌}
+use Prim.Native.Nat.{ℕ, ◌+◌}
 use native.Mathlib.Omega.{arith}
 use borrow.Author.Tests.{eqb-true}
-use mathlib.Core.Bool.{Bool, true, false}
-use mathlib.Core.List.{List, [], ◌∷◌, ◌++◌, append_assoc, append-nil, foldl}
+use mathlib.Core.Bool.{Bool, true}
+use mathlib.Core.List.{List, [], ◌∷◌, ◌++◌, append_assoc, foldl}
 use mathlib.Core.Option.{Option, none, some}
 use mathlib.Core.Path.{◌≡◌, refl, sym, ap, ◌∙◌}
 use lib.Dec.{eqb, leb}
@@ -13,18 +13,18 @@ use lib.Seq.{take_at}
 use Rattle.choice.specs.Choice.{if◌then◌else◌}
 use Rattle.rules.specs.Pairs.{Lent, lent_good, no_pairs}
 use Rattle.rules.specs.States.{well_formed, opening}
-use Rattle.rules.specs.GivenBack.{input, Verdict, refused as refused_event, accepted as accepted_event, judge_input, judge, answer}
+use Rattle.rules.specs.GivenBack.{input, Verdict, judge_input, judge, answer}
 use Rattle.rules.specs.GivenBack.{step_with}
 use Rattle.rules.specs.declared.Machine.{Machine}
 use Rattle.rules.specs.declared.Event.{Event}
 use Rattle.rules.specs.declared.Input.{Input}
 use Rattle.choice.proofs.Choices.{both_ways, by_test}
-use Rattle.keylog.specs.Records.{byte, stated, is_settings, settings, is_event, event, is_list, list}
+use Rattle.keylog.specs.Records.{is_settings, settings, is_event, event, is_list, list}
 use Rattle.keylog.specs.LogRecords.{cut_up, records_of, tail_of}
 use Rattle.keylog.specs.Walk.{Place}
 use Rattle.keylog.specs.Reader.{Desk, closed, opened, running, RecordEffect, refused, accepted}
-use Rattle.keylog.specs.Reader.{by_opening, by_list, by_step, by_event, record_effect}
-use Rattle.keylog.specs.Reader.{Reading, fresh, refuse, accept, unless_refused, read_record, is_cut, at_end, read}
+use Rattle.keylog.specs.Reader.{by_opening, by_event, record_effect}
+use Rattle.keylog.specs.Reader.{Reading, fresh, refuse, accept, unless_refused, read_record, is_cut, read}
 use Rattle.keylog.proofs.Walking.{over}
 use Rattle.keylog.proofs.Reading.{read_records}
 use Rattle.mending.specs.Laws.{joined}

@@ -1,10 +1,9 @@
 -- A comment adds nothing: the line of a refused record.
-use Prim.Native.Nat.{ℕ, zero, suc, ◌+◌, ◌/◌, ◌%◌, ◌<◌}
+use Prim.Native.Nat.{ℕ, zero, suc, ◌+◌, ◌/◌, ◌%◌}
 use native.Mathlib.Omega.{arith}
 use borrow.Author.Tests.{ne_eqb}
-use mathlib.Core.Bool.{Bool, true, false}
-use mathlib.Core.List.{List, [], ◌∷◌, ◌++◌}
-use mathlib.Core.Path.{◌≡◌, refl}
+use mathlib.Core.List.{List, [], ◌∷◌}
+use mathlib.Core.Path.{refl}
 use lib.Dec.{eqb, ltb}
 use Rattle.io.specs.Digits.{hex_digit_ascii, last_digits}
 use Rattle.choice.proofs.Choices.{both_ways, either}

@@ -2,14 +2,12 @@
 use Prim.Native.Nat.{ℕ, zero, suc, ◌+◌, ◌-◌, ◌*◌, ◌/◌, ◌%◌, ◌≤◌, ◌<◌}
 use native.Mathlib.Omega.{arith}
 use borrow.Author.Tests.{eqb-true}
-use mathlib.Core.Bool.{Bool, true, false, and-eq-true_iff}
-use mathlib.Core.List.{List, [], ◌∷◌, ◌++◌, append_assoc}
+use mathlib.Core.Bool.{true, and-eq-true_iff}
+use mathlib.Core.List.{List, [], ◌++◌, append_assoc}
 use mathlib.Core.Option.{Option, none, some, none-ne-some}
-use mathlib.Core.Path.{◌≡◌, refl, sym, ap, ◌∙◌, subst}
+use mathlib.Core.Path.{◌≡◌, refl}
 use lib.Dec.{eqb}
 use lib.ListN.{length}
-use Rattle.choice.specs.Choice.{if◌then◌else◌}
-use Rattle.rules.specs.Pairs.{Pair, Lent}
 use Rattle.rules.specs.GivenBack.{with_thumb, with_0, input}
 use Rattle.rules.specs.declared.Thumb.{Thumb}
 use Rattle.rules.specs.declared.Input.TheVariants.{ThumbDown, ThumbUp, FunctionDown, Tick}
@@ -21,7 +19,7 @@ use Rattle.status_line.specs.Decimal.{decimal}
 use Rattle.status_line.specs.Status as lines
 use Rattle.keylog.specs.Records.{byte, number, tag, stated, is_settings, settings, is_event, event, is_list, pair_at, pairs_from, list}
 use Rattle.keylog.proofs.Kept.{list_facts}
-use Rattle.notation.specs.Notation.{settings_text, pair_text, pairs_text, list_text, stroke_text, event_text, record_text}
+use Rattle.notation.specs.Notation.{settings_text, pair_text, pairs_text, list_text, stroke_text, event_text}
 use Rattle.notation.specs.RoundTrip.{Bytes}
 use Rattle.notation.specs.declared.Field.{Field}
 use Rattle.notation.specs.declared.Field.TheVariants.{Start, T, J, L, Solo, Key, Stamp, Ts, N, First, Second, Character}
@@ -30,9 +28,9 @@ use Rattle.notation.specs.declared.Step.TheVariants.{Next}
 use Rattle.notation.specs.Transcribing.{is_blank, ends_entry, with_sign, no_signs, packed, push, kind_and_key, following, start}
 use Rattle.notation.specs.Transcribing.{reading, behind}
 use Rattle.notation.specs.Transcribing.{base, most, last, whole, takes_letters, digit_value, at_sign, entry_step, step, Log}
-use Rattle.notation.specs.Transcribing.{with_output, from}
+use Rattle.notation.specs.Transcribing.{from}
 use Rattle.notation.proofs.Passing.{Passes, ◌and_on◌, no_digit_32, number_passes, code_point_passes}
-use Rattle.notation.proofs.RecordBytes.{log_to, log_begins, log_grows, log_ends}
+use Rattle.notation.proofs.RecordBytes.{log_to, log_grows, log_ends}
 
 -- signs behind a number, with or without a blank before them
 record Said (v : ℕ) (l : Log) : Type 0 where

@@ -1,12 +1,12 @@
 -- How a transcriber comes through a part of a text: what it has read and what the log holds before that part and behind it. The digits of
 -- a number make the number.
-use Prim.Native.Nat.{ℕ, zero, suc, ◌+◌, ◌-◌, ◌*◌, ◌/◌, ◌%◌, ◌^◌, ◌≤◌, ◌<◌}
+use Prim.Native.Nat.{ℕ, zero, suc, ◌+◌, ◌*◌, ◌/◌, ◌%◌, ◌^◌, ◌≤◌, ◌<◌}
 use native.Mathlib.Nat.{pow-suc}
 use native.Mathlib.Omega.{arith}
 use borrow.Author.Tests.{lt-ltb, ltb-true, ltb-false, le-leb, lt-leb}
 use mathlib.Core.Bool.{Bool, true, false}
 use mathlib.Core.List.{List, [], ◌∷◌, ◌++◌, append_assoc}
-use mathlib.Core.Path.{◌≡◌, refl, sym, ap, ◌∙◌}
+use mathlib.Core.Path.{◌≡◌, refl, ◌∙◌}
 use lib.Dec.{ltb}
 use Rattle.io.specs.Digits.{hex_digit_ascii, last_digits}
 use Rattle.choice.proofs.Choices.{by_test}
@@ -16,7 +16,6 @@ use Rattle.notation.specs.declared.Field.{Field}
 use Rattle.notation.specs.declared.Field.TheVariants.{Second, Character}
 use Rattle.notation.specs.declared.Progress.{Progress}
 use Rattle.notation.specs.declared.Output.{Output}
-use Rattle.notation.specs.declared.Follow.{Follow}
 use Rattle.notation.specs.declared.Follow.TheVariants.{Reads}
 use Rattle.notation.specs.Transcribing.{packed, base, most, push, takes_letters, digit_value, following, reading, behind}
 use Rattle.notation.specs.Transcribing.{at_digit, entry_step, step, Log, with_output, from}

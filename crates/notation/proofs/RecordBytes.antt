@@ -1,25 +1,21 @@
 -- A whole record put together again from the numbers that were read off it: its tag, its length, and its body, field by field.
-use Prim.Native.Nat.{ℕ, zero, suc, ◌+◌, ◌-◌, ◌*◌, ◌≤◌, ◌<◌}
+use Prim.Native.Nat.{ℕ, zero, suc, ◌+◌, ◌≤◌, ◌<◌}
 use native.Mathlib.Omega.{arith}
 use borrow.Author.Tests.{ne_eqb, le-ltb}
-use mathlib.Core.Bool.{Bool, true, false}
 use mathlib.Core.List.{List, [], ◌∷◌, ◌++◌}
 use mathlib.Core.Path.{◌≡◌, refl, sym, ap, ◌∙◌}
-use lib.Dec.{eqb, ltb}
-use lib.ListN.{length, take, drop, length-drop, length-append, take-append-drop, drop_of_length-le}
+use lib.ListN.{length, take, drop, length-drop, take-append-drop, drop_of_length-le}
 use lib.Seq.{length-take-le, take_all, take-suc, drop-cons, get_or-drop, drop-drop, take-add, drop-append-le}
 use Rattle.keylog.specs.Records.{byte, number, bytes_of, tag, stated}
-use Rattle.keylog.proofs.Bytes.{length_bytes_of, bytes_more}
+use Rattle.keylog.proofs.Bytes.{bytes_more}
 use Rattle.keylog.proofs.Walking.{at_least_3}
 use Rattle.writer.specs.Drills.{record_of}
 use Rattle.notation.specs.RoundTrip.{Bytes}
 use Rattle.notation.specs.declared.Field.{Field}
-use Rattle.notation.specs.declared.Progress.{Progress}
-use Rattle.notation.specs.declared.Step.{Step}
 use Rattle.notation.specs.declared.Step.TheVariants.{Next}
 use Rattle.notation.specs.Transcribing.{line_end, start, reading, push, last, whole, is_blank, ends_entry, ended, takes_letters}
 use Rattle.notation.specs.Transcribing.{at_sign, entry_step, step}
-use Rattle.notation.specs.Transcribing.{Log, overlong, with_output, from}
+use Rattle.notation.specs.Transcribing.{Log, with_output, from}
 use Rattle.notation.proofs.Passing.{Passes, no_digit_10}
 
 module _ (r : List ℕ) (bytes : Bytes r) where

@@ -1,30 +1,28 @@
 -- The notation of a log, transcribed, is what stands before its refused record, and the whole log where there is none.
-use Prim.Native.Nat.{ℕ, ◌+◌, ◌*◌, ◌≤◌, ◌<◌}
+use Prim.Native.Nat.{ℕ, ◌+◌, ◌*◌, ◌≤◌}
 use native.Mathlib.Omega.{arith}
 use borrow.Author.Tests.{eq-eqb, ne_eqb, ltb-true, ltb-false}
-use mathlib.Core.Bool.{Bool, true, false}
 use mathlib.Core.List.{List, [], ◌∷◌, ◌++◌, append_assoc, append-nil}
-use mathlib.Core.Option.{none}
-use mathlib.Core.Path.{◌≡◌, refl, sym, ap, ◌∙◌}
+use mathlib.Core.Path.{◌≡◌, ap, ◌∙◌}
 use lib.Dec.{ltb}
 use lib.ListN.{length, take, drop, take-append-drop, get_or-append, get_or-eq_default}
 use lib.Seq.{take_all, get_or-append-add}
 use Rattle.decimals.specs.Decimals.{is_digit}
 use Rattle.choice.proofs.Choices.{either}
-use Rattle.keylog.specs.Records.{byte, tag, stated, event}
+use Rattle.keylog.specs.Records.{tag, stated, event}
 use Rattle.keylog.specs.LogRecords.{records_of}
 use Rattle.keylog.specs.Reader.{read, number_of}
 use Rattle.keylog.specs.RecordRefusals.{Accepts}
 use Rattle.keylog.proofs.Passed.{all_passed}
 use Rattle.mending.specs.Laws.{joined, mended_line}
-use Rattle.mending.specs.Mending.{Mending, mend}
+use Rattle.mending.specs.Mending.{mend}
 use Rattle.mending.proofs.Laws.{mend_laws}
 use Rattle.mending.proofs.LogParts.{Wholes}
-use Rattle.notation.specs.Notation.{record_text, texts, refusal_text, whole_reading, accepted_front, notated}
+use Rattle.notation.specs.Notation.{record_text, texts, whole_reading, accepted_front, notated}
 use Rattle.notation.specs.RoundTrip.{Bytes, RoundTripStatement}
 use Rattle.notation.specs.Transcribing.{start, empty, takes_letters, digit_value, is_blank, ends_entry, ended, at_sign, entry_step}
 use Rattle.notation.specs.Transcribing.{step}
-use Rattle.notation.specs.Transcribing.{Log, Transcript, log, from, transcribed}
+use Rattle.notation.specs.Transcribing.{Log, log, from, transcribed}
 use Rattle.notation.proofs.Passing.{Passes, ◌and_on◌, stays}
 use Rattle.notation.proofs.RecordBytes.{log_begins}
 use Rattle.notation.proofs.Entries.{settings_tag, settings_pass, event_tag, event_pass, list_tag, list_pass}

@@ -5,7 +5,6 @@ use Rattle.text.specs.Text.{ascii}
 use Rattle.notation.specs.declared.Field.TheVariants.{Start, T, Key, Stamp, Ts, First, Second}
 use Rattle.notation.specs.declared.Expected.TheVariants.{After, AtMost}
 use Rattle.notation.specs.Transcribing.{Transcript, log, wrong, transcribed}
-use Rattle.notation.specs.Notation.{notated}
 
 -- settings: T=100, J=L=50, solo 0
 abbrev pub opens : List ℕ

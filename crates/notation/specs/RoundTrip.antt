@@ -1,9 +1,9 @@
 -- The notation of a log, transcribed, is the log. Of a log that is refused it is what stands before the refused record.
-use Rattle.std.specs.Prelude.{ℕ, ◌<◌, List, ◌≡◌, length}
+use Rattle.std.specs.Prelude.{ℕ, ◌<◌, List, ◌≡◌}
 use Rattle.keylog.specs.Records.{byte}
 use Rattle.keylog.specs.Reader.{read}
 use Rattle.keylog.specs.RecordRefusals.{Accepts}
-use Rattle.notation.specs.Transcribing.{Transcript, log, transcribed}
+use Rattle.notation.specs.Transcribing.{log, transcribed}
 use Rattle.notation.specs.Notation.{accepted_front, notated}
 
 -- a list of bytes

@@ -26,7 +26,6 @@ use Rattle.rules.specs.declared.Input.{Input}
 use Rattle.rules.specs.declared.Input.TheVariants.{CharacterDown, CharacterUp, ThumbDown, ThumbUp, FunctionDown, Tick}
 use Rattle.choice.proofs.Choices.{either}
 use Rattle.rules.proofs.Late.{settle_once}
-use Rattle.opinions.specs.Earlier.{is}
 use Rattle.opinions.specs.Opinion.{matters, late, ahead, short, Set, free, thumb, given, Decision, over, on, after, which}
 use Rattle.opinions.specs.Opinion.{released, letter_first, from_letter_first, thumb_first, from_thumb_first, letter_alone}
 use Rattle.opinions.specs.Opinion.{from_letter, thumb_alone, decide, Told, told, tell, follow, from}

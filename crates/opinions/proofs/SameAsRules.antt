@@ -77,7 +77,7 @@ module _ (t n : ℕ) (good : lent_good (g t n) ≡ true) where
       rw (no, z) (knows_after m before es w))
       (λ i a q.
       let yes : number_after before e ≡ 0 = sym (number_is (g t n) good m before w e) ∙ ap (λ (r : Answer). r.number) (sym q) in
-      rw yes (knows_after _ (e ∷ before) es (knows_next (g t n) good m before w e i a q)))
+      rw yes (knows_after (taken (g t n) m e (acts_as m.held i)).machine (e ∷ before) es (knows_next (g t n) good m before w e i a q)))
       refl
 
 pub same_as_rules : SameAsRulesStatement

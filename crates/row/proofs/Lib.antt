@@ -1,6 +1,4 @@
 pub mod Found
-pub mod Leaving
-pub mod Calling
 pub mod Placed
 pub mod RowFacts
 pub mod RowRuns

@@ -42,6 +42,13 @@ any_machine = fresh (settings_of 0 0 0 0)
 abbrev pub state_at : List Machine → ℕ → Machine
 state_at row k = get_or row k any_machine
 
+-- the code's test, answered with yes and with no
+pub is_in : (n k : ℕ) (r : Bool) → r ≡ is_keyboard n k → r ≡ true → T (is_keyboard n k)
+is_in n k r e h = rw (← e, h) tt
+
+pub is_out : (n k : ℕ) (r : Bool) → r ≡ is_keyboard n k → r ≡ false → T (is_keyboard n k) → ⊥
+is_out n k r e h t = rw (← e, h) at t
+
 module _ (n k : ℕ) (t : T (is_keyboard n k)) where
   passed : (leb n most_keyboards ≡ true) × (ltb k n ≡ true)
   unfolding is_keyboard

@@ -9,7 +9,7 @@ use lib.Dec.{eqb}
 use lib.ListN.{get_elem?}
 use Rattle.choice.specs.Choice.{if◌then◌else◌}
 use Rattle.rules.specs.Pairs.{Lent}
-use Rattle.rules.specs.States.{later, fresh, opening, opened}
+use Rattle.rules.specs.States.{later, opening, opened}
 use Rattle.rules.specs.GivenBack.{Answer, step}
 use Rattle.rules.specs.Distance.{asking}
 use Rattle.rules.specs.Sequences.{along, state, accepted_events}
@@ -32,11 +32,11 @@ use Rattle.engine.specs.Calls.{Calls, last_machine, OfTheCode}
 use Rattle.engine.specs.Calls as one
 use Rattle.engine.specs.declared.Stepped.{Stepped}
 use Rattle.engine.proofs.Calls.{of_the_code}
-use Rattle.row.specs.Row.{RowAnswer, asking_at}
+use Rattle.row.specs.Row.{RowAnswer}
 use Rattle.row.specs.Views.{TellsAt, asked_at}
 use Rattle.row.specs.RowFacts.{Found}
 use Rattle.row.specs.RowRuns.{RowEvent, row_step, events_of}
-use Rattle.row.specs.RowCalls.{Called, CallsAt, RowCalls, no_more, call, HandedOn, no_call, handed, own_answer}
+use Rattle.row.specs.RowCalls.{Called, CallsAt, RowCalls, no_more, call, no_call, handed, own_answer}
 use Rattle.row.specs.RowCalls.{answer_in, answers_of, machine_of}
 use Rattle.row.specs.RowCalls.{AsksAt, told_of, RowHandedOn, OwnCalls, IsolatedCalls, OfTheRowStatement, ClockMovedAtStatement, RowOfTheCode}
 use Rattle.row.specs.declared.Told.{Told}

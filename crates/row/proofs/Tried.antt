@@ -24,8 +24,8 @@ use Rattle.row.specs.Row.{keyboard, RowAnswer, step_at, asking_at}
 use Rattle.row.specs.Views.{TellsAt}
 use Rattle.row.specs.RowFacts.{Found}
 use Rattle.row.specs.RowRuns.{RowEvent, row_step, events_of}
-use Rattle.row.specs.RowCalls.{Called, HandedOn, no_call, handed, RowCalls, no_more, call}
-use Rattle.row.specs.Tried.{at_board, row_answers, two, mixed, others, later_on, Computed, CalledWith, Grown, Met}
+use Rattle.row.specs.RowCalls.{Called, HandedOn, no_call, handed, no_more, call}
+use Rattle.row.specs.Tried.{at_board, row_answers, two, mixed, others, later_on, Computed, CalledWith, Met}
 use Rattle.row.proofs.RowCalls.{packed_items, row_of_the_code}
 
 -- a call that answers and leaves what the definition says, where its items and sendings are ones that can be told

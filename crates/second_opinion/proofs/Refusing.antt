@@ -1,12 +1,12 @@
 -- What is asked of an event and of the events before it, as the code finds it.
-use Prim.Native.Nat.{ℕ, zero, suc, ◌+◌, ◌-◌, ◌<◌, ◌≤◌}
+use Prim.Native.Nat.{ℕ, ◌+◌, ◌-◌, ◌<◌}
 use native.Mathlib.Numerals.{add-one}
 use native.Mathlib.Omega.{arith}
-use borrow.Author.Tests.{eq-eqb, ne_eqb}
-use mathlib.Core.Bool.{Bool, true, false, ◌||◌, ◌&&◌, not, or-false}
+use borrow.Author.Tests.{ne_eqb}
+use mathlib.Core.Bool.{Bool, false, or-false}
 use mathlib.Core.List.{List}
-use mathlib.Core.Path.{◌≡◌, refl, sym, ap, ◌∙◌}
-use lib.Dec.{eqb, ltb}
+use mathlib.Core.Path.{◌≡◌, refl}
+use lib.Dec.{ltb}
 use Rattle.choice.specs.Choice.{if◌then◌else◌}
 use Rattle.rules.specs.Numbers.{keys}
 use Rattle.rules.specs.declared.Event.{Event}

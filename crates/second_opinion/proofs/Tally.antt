@@ -3,8 +3,8 @@ use Prim.Native.Nat.{ℕ, zero, suc, ◌+◌, ◌-◌, ◌*◌, ◌<◌, ◌≤�
 use native.Mathlib.Nat.{add-zero, zero-add}
 use native.Mathlib.Omega.{arith}
 use native.Mathlib.Numerals.{add-one}
-use mathlib.Core.List.{List, [], ◌∷◌, ◌++◌, append-nil}
-use mathlib.Core.Path.{◌≡◌, refl, sym, ap, ap₂, ◌∙◌}
+use mathlib.Core.List.{List, [], ◌++◌, append-nil}
+use mathlib.Core.Path.{◌≡◌, refl, sym, ap, ◌∙◌}
 use lib.ListN.{length, take, drop, length-append, take-append-drop}
 use Rattle.rules.specs.ZeroDelay.{signs}
 use Rattle.rules.specs.declared.Settings.{Settings}
@@ -18,14 +18,13 @@ use Rattle.rules.specs.declared.Items.{Items}
 use Rattle.opinions.specs.Opinion as opinions
 use Rattle.opinions.specs.Opinion.{Told, told, tell, from}
 use Rattle.second_opinion.specs.Places.{from_place}
-use Rattle.second_opinion.specs.Views.{ListFrom, waiting, still_set, SetInRange, decided, Goes_on, Decides}
+use Rattle.second_opinion.specs.Views.{ListFrom, waiting, still_set, SetInRange, Decides}
 use Rattle.second_opinion.specs.Telling.{told_of, packed, words_of, Counts}
 use Rattle.second_opinion.specs.declared.looking.EarlierPress.{EarlierPress}
 use Rattle.second_opinion.specs.declared.decisions.Set.{Set}
 use Rattle.second_opinion.specs.declared.decisions.Set.TheVariants.{Free}
 use Rattle.second_opinion.specs.declared.decisions.Decision.{Decision}
 use Rattle.second_opinion.specs.declared.decisions.Decision.TheVariants.{Over, On}
-use Rattle.second_opinion.specs.declared.telling.Total.{Total}
 
 one_decision : (s : Settings) (fuel : ℕ) (h : opinions.Set) (es : List _) → 0 < fuel
     → from s fuel h es ≡ opinions.follow (from s (fuel - 1)) (opinions.decide s h es)

@@ -7,7 +7,7 @@ use Rattle.notation.specs.declared.Output.{Output}
 use Rattle.notation.specs.declared.Expected.{Expected}
 use Rattle.notation.specs.declared.Step.{Step}
 use Rattle.notation.specs.declared.Step.TheVariants as steps
-use Rattle.transcriber.specs.Sizes.{with_output, by_step, advanced, Slow}
+use Rattle.transcriber.specs.Sizes.{with_output, advanced, Slow}
 use Rattle.transcriber.specs.declared.state.State.{State}
 use Rattle.transcriber.specs.declared.state.Advanced.{Advanced}
 use Rattle.transcriber.specs.declared.state.Advanced.TheVariants.{Wrong}

@@ -4,9 +4,7 @@ use native.Mathlib.Omega.{arith}
 use borrow.Author.Tests.{le-leb, lt-leb}
 use mathlib.Core.List.{List}
 use mathlib.Core.Path.{◌≡◌, refl, sym, ap, ◌∙◌}
-use lib.Dec.{leb}
 use lib.ListN.{length, take}
-use Rattle.choice.specs.Choice.{if◌then◌else◌}
 use Rattle.filled.specs.Filled.{filled}
 use Rattle.notation.specs.Transcribing.{Transcript, log, wrong, transcribed}
 use Rattle.notation.specs.declared.Expected.{Expected}

@@ -2,8 +2,8 @@
 use Prim.Native.Nat.{ℕ, suc, ◌+◌, ◌-◌, ◌*◌, ◌≤◌, ◌<◌}
 use native.Mathlib.Numerals.{add-one}
 use native.Mathlib.Omega.{arith}
-use borrow.Author.Tests.{eqb-true, ltb-true, ltb-false, eq-eqb, ne_eqb}
-use mathlib.Core.Bool.{Bool, true, false}
+use borrow.Author.Tests.{ltb-true, ltb-false}
+use mathlib.Core.Bool.{true, false}
 use mathlib.Core.List.{List, [], ◌∷◌, ◌++◌}
 use mathlib.Core.Path.{◌≡◌, refl, sym, ap, ◌∙◌}
 use lib.Dec.{eqb, ltb}
@@ -24,7 +24,6 @@ use Rattle.transcriber.specs.Transcribes.{longest_text, measured, Within}
 use Rattle.transcriber.specs.declared.state.State.{State}
 use Rattle.transcriber.specs.declared.state.Advanced.{Advanced}
 use Rattle.transcriber.specs.declared.state.Advanced.TheVariants.{Next, Wrong}
-use Rattle.transcriber.specs.declared.measuring.Measured.{Measured}
 use Rattle.transcriber.specs.declared.measuring.Measured.TheVariants as sizes
 use Rattle.transcriber.proofs.Sane.{idle, Sane, Keeps, step_keeps, Ends, line_ends}
 use Rattle.transcriber.proofs.Room.{body_long, record_long}

@@ -9,7 +9,6 @@ use Rattle.notation.specs.declared.Field.{Field}
 use Rattle.notation.specs.declared.Progress.{Progress}
 use Rattle.notation.specs.declared.Output.{Output}
 use Rattle.notation.specs.declared.Expected.TheVariants.{AtMost}
-use Rattle.notation.specs.declared.Step.{Step}
 use Rattle.notation.specs.declared.Step.TheVariants.{Next, Wrong}
 
 -- no byte below `A` is a letter

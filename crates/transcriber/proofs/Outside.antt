@@ -1,7 +1,7 @@
 -- A byte outside a comment.
 use Prim.Native.Nat.{ℕ}
 use mathlib.Core.Bool.{Bool, false, not}
-use mathlib.Core.Path.{◌≡◌, sym, ◌∙◌, subst}
+use mathlib.Core.Path.{◌≡◌, sym, subst}
 use lib.Dec.{eqb}
 use Rattle.choice.specs.Choice.{if◌then◌else◌}
 use Rattle.notation.specs.Transcribing.{line_end, between, nothing, entry_step, step}

@@ -1,27 +1,20 @@
 -- Between two entries no record is begun; a text ends there. So what is written never goes past the log that the text gives.
-use Prim.Native.Nat.{ℕ, suc, ◌+◌, ◌*◌, ◌≤◌}
-use native.Mathlib.Omega.{arith}
-use borrow.Author.Tests.{eqb-true, eqb-false}
-use mathlib.Core.Bool.{Bool, true, false, not, ◌||◌, false≢true}
-use mathlib.Core.List.{List, [], ◌∷◌, ◌++◌}
+use Prim.Native.Nat.{ℕ, ◌+◌, ◌*◌}
+use mathlib.Core.Bool.{Bool, true, false, ◌||◌, false≢true}
+use mathlib.Core.List.{[]}
 use mathlib.Core.Path.{◌≡◌, refl, sym, ap, ◌∙◌}
 use lib.Dec.{eqb, ltb, leb}
-use lib.ListN.{length, length-append}
+use lib.ListN.{length}
 use Rattle.choice.specs.Choice.{if◌then◌else◌}
-use Rattle.choice.proofs.Choices.{both_ways, by_test, either}
-use Rattle.keylog.specs.Records.{bytes_of}
-use Rattle.keylog.proofs.Bytes.{length_bytes_of}
-use Rattle.writer.specs.Drills.{record_of}
-use Rattle.notation.specs.Transcribing as notation
-use Rattle.notation.specs.Transcribing.{no_signs, is_blank, ends_entry, begins_comment, line_end, packed, base, most, nothing}
+use Rattle.choice.proofs.Choices.{both_ways, by_test}
+use Rattle.notation.specs.Transcribing.{no_signs, is_blank, ends_entry, begins_comment, packed, base, most}
 use Rattle.notation.specs.Transcribing.{takes_letters, digit_value}
-use Rattle.notation.specs.Transcribing.{following, between, reading, grown, begun, whole, ended, at_digit, at_sign, entry_step, step}
-use Rattle.notation.specs.Transcribing.{Log, body_with, overlong, with_output, Transcript, log, wrong, taken, from}
+use Rattle.notation.specs.Transcribing.{following, between, begun, whole, ended, at_digit, at_sign, entry_step, step}
+use Rattle.notation.specs.Transcribing.{Log, with_output}
 use Rattle.notation.proofs.Passing.{no_digit_10}
 use Rattle.notation.specs.declared.Field.{Field}
 use Rattle.notation.specs.declared.Field.TheVariants.{Start, T, J, L, Solo, Key, Stamp, Ts, N, First, Second, Character}
 use Rattle.notation.specs.declared.Progress.{Progress}
-use Rattle.notation.specs.declared.Output.{Output}
 use Rattle.notation.specs.declared.Follow.{Follow}
 use Rattle.notation.specs.declared.Follow.TheVariants.{Reads, Unfit}
 use Rattle.notation.specs.declared.Step.{Step}

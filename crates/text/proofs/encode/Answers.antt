@@ -1,8 +1,6 @@
 -- `text::encode` meets its contract: the run is filled with the text of the words passed (`Writing`).
 use borrow.Author.Rules.{rules}
-use Prim.Native.Nat.{◌-◌}
-use lib.ListN.{length}
-use Rattle.text.proofs.Signs.{Writing, begun, does_not_fit, same_length, next_fits, written_more, all_written}
+use Rattle.text.proofs.Signs.{begun, does_not_fit, same_length, next_fits, written_more, all_written}
 use Rattle.text.proofs.encode.Goals as goal
 
 pub returns-then-out-n : goal.returns-then-out-n

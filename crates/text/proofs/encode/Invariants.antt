@@ -1,8 +1,7 @@
 -- `text::encode` meets its contract: the run is filled with the text of the words passed (`Writing`).
-use borrow.Author.Rules.{rules}
 use Prim.Native.Nat.{◌-◌}
 use lib.ListN.{length}
-use Rattle.text.proofs.Signs.{Writing, begun, does_not_fit, same_length, next_fits, written_more, all_written}
+use Rattle.text.proofs.Signs.{Writing}
 use Rattle.text.proofs.encode.Given as goal
 
 abbrev pub invariant-loop-i : goal.invariant-loop-i

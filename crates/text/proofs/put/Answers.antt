@@ -1,5 +1,4 @@
 -- `text::put` meets its contract.
-use borrow.Author.Rules.{rules}
 use Rattle.text.proofs.Putting.{does_fit, put_there, not_put}
 use Rattle.text.proofs.put.Goals as goal
 

@@ -1,10 +1,8 @@
 -- `text::size` meets its contract: what is counted is the text of the words passed.
-use borrow.Author.Rules.{rules}
 use Prim.Native.Nat.{◌≤◌, ◌*◌, ◌-◌}
 use mathlib.Core.Path.{◌≡◌}
 use lib.ListN.{length, take}
 use Rattle.text.specs.Text.{text}
-use Rattle.text.proofs.Signs.{counted_more, counted_all}
 use Rattle.text.proofs.size.Given as goal
 
 abbrev pub invariant-loop-i : goal.invariant-loop-i

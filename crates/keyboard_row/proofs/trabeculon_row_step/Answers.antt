@@ -1,0 +1,31 @@
+-- `keyboard_row::trabeculon_row_step` meets its contract.
+use Rattle.keyboard.specs.Keyboard.{lent_of, event_of}
+use Rattle.row.proofs.Placed.{is_in, is_out, within}
+use Rattle.keyboard_row.proofs.Placed.{offset_fits, told_here, told_nowhere}
+use Rattle.keyboard_row.proofs.trabeculon_row_step.Goals as goal
+
+pub offset_bounds-row-place : goal.offset_bounds-row-place
+offset_bounds-row-place c = record {
+  fits = offset_fits _ _ (is_in _ _ _ c.is_keyboard.ensures c.if-is_keyboard.true);
+}
+
+pub slice_copy_out-advance : goal.slice_copy_out-advance
+slice_copy_out-advance c = within _ _ (is_in _ _ _ c.is_keyboard.ensures c.if-is_keyboard.true)
+
+pub offset_bounds-row-place-then-is_keyboard : goal.offset_bounds-row-place-then-is_keyboard
+offset_bounds-row-place-then-is_keyboard c = record {
+  fits = offset_fits _ _ (is_in _ _ _ c.is_keyboard.ensures c.if-is_keyboard.true);
+}
+
+pub bounds-row-place : goal.bounds-row-place
+bounds-row-place c = within _ _ (is_in _ _ _ c.is_keyboard.ensures c.if-is_keyboard.true)
+
+pub returns-then-is_keyboard : goal.returns-then-is_keyboard
+returns-then-is_keyboard c = told_here _ _ (lent_of c.args.pairs.now c.args.ts c.args.n)
+    (is_in _ _ _ c.is_keyboard.ensures c.if-is_keyboard.true)
+    (event_of c.args.kind c.args.key c.args.stamp) _ c.advance-done.ensures
+
+pub returns : goal.returns
+returns c = told_nowhere _ _ (lent_of c.args.pairs.now c.args.ts c.args.n)
+    (is_out _ _ _ c.is_keyboard.ensures c.if-is_keyboard.false)
+    (event_of c.args.kind c.args.key c.args.stamp) _ c.no_keyboard.ensures

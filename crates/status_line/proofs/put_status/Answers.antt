@@ -1,0 +1,14 @@
+-- `status_line::put_status` meets its contract.
+use borrow.Author.Rules.{rules}
+use mathlib.Core.Path.{sym}
+use lib.Seq.{length-take-le}
+use Rattle.status_line.proofs.Statuses.{put_spelt, status_short}
+use Rattle.status_line.proofs.put_status.Goals as goal
+
+pub slice_bounds-put_bytes-end : goal.slice_bounds-put_bytes-end
+slice_bounds-put_bytes-end c = sym (length-take-le _ _ (search rules))
+
+pub returns : goal.returns
+returns c =
+    let p = put_spelt _ 52 _ _ _ _ _ _ _ (status_short _ _ _) c.spell-n.ensures.stored c.put_bytes.ensures in
+    record { puts = p.0; upper_bound = p.1 }
