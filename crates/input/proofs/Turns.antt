@@ -19,4 +19,4 @@ read_on buf n k p left e t =
 pub within_more : (n room : ℕ) (r : Input) → n ≤ room → Within n r → Within room r
 within_more n room (input.Whole k) h w = omega arith
 within_more n room input.Longer h w = tt
-within_more n room input.Failed h w = tt
+within_more n room (input.Failed error) h w = tt

@@ -9,10 +9,10 @@ use Rattle.input.specs.declared.Input.TheVariants as input
 abbrev pub Taken : ℕ → Piece → Type 0
 Taken room (piece.Bytes n) = (1 ≤ n) × (n ≤ room)
 Taken room piece.End = Unit {0}
-Taken room piece.Failed = Unit {0}
+Taken room (piece.Failed error) = Unit {0}
 
 -- all that was read lies within the buffer
 abbrev pub Within : ℕ → Input → Type 0
 Within room (input.Whole n) = n ≤ room
 Within room input.Longer = Unit {0}
-Within room input.Failed = Unit {0}
+Within room (input.Failed error) = Unit {0}
