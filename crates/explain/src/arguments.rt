@@ -1,5 +1,5 @@
 // What the program's arguments ask for.
-use libc::STDERR_FILENO;
+use std::io::{IsTerminal, Stderr};
 
 #[derive(Clone, Copy)]
 pub enum Mode {
@@ -281,37 +281,37 @@ fn expecting(options: Options, expected: Expected) -> Reading {
 
 // An option, or a file's name.
 fn named(options: Options, i: usize, name: &[u8]) -> Reading {
-    if check::same(name, b"--help") {
+    if name == b"--help".as_slice() {
         return expecting(options, Expected::Help);
     }
-    if check::same(name, b"--why") {
+    if name == b"--why".as_slice() {
         return expecting(options, Expected::Why);
     }
-    if check::same(name, b"--lines") {
+    if name == b"--lines".as_slice() {
         return expecting(options, Expected::Lines);
     }
-    if check::same(name, b"--from") {
+    if name == b"--from".as_slice() {
         return expecting(options, Expected::From);
     }
-    if check::same(name, b"--to") {
+    if name == b"--to".as_slice() {
         return expecting(options, Expected::To);
     }
-    if check::same(name, b"--svg") {
+    if name == b"--svg".as_slice() {
         return with_mode(options, Mode::Picture);
     }
-    if check::same(name, b"--margins") {
+    if name == b"--margins".as_slice() {
         return with_mode(options, Mode::Margins);
     }
-    if check::same(name, b"--progress") {
+    if name == b"--progress".as_slice() {
         return with_progress(options);
     }
     file(options, i, name)
 }
 
 // One argument, by what was expected.
-fn take(reading: Reading, i: usize) -> Reading {
+fn take(rt: HostRuntime, reading: Reading, i: usize) -> Reading {
     let mut buf = io::buffer();
-    let n = os::arg(i, &mut buf);
+    let n = input::argument(&rt, i, &mut buf);
     let name = &buf[..n];
     let options = reading.options;
     let expected = reading.expected;
@@ -327,7 +327,7 @@ fn take(reading: Reading, i: usize) -> Reading {
 }
 
 // Without arguments. A terminal is told how much was read.
-fn usual() -> Reading {
+fn usual(stderr: Stderr) -> Reading {
     Reading {
         options: Options {
             mode: Mode::Table,
@@ -337,7 +337,7 @@ fn usual() -> Reading {
                 from: 0,
                 to: LARGEST,
             },
-            progress: libc::isatty(STDERR_FILENO) == 1,
+            progress: stderr.is_terminal(),
             file: 0,
         },
         expected: Expected::Any,
@@ -364,12 +364,12 @@ fn understood(reading: Reading) -> Asked {
     }
 }
 
-pub fn read() -> Asked {
-    let count = os::arg_count();
-    let mut reading = usual();
+pub fn read(rt: HostRuntime) -> Asked {
+    let count = input::count_arguments(&rt, usize::MAX);
+    let mut reading = usual(rt.stderr());
     let mut i = 1;
     while i < count {
-        let next = take(reading, i);
+        let next = take(rt, reading, i);
         reading = next;
         i += 1;
     }

@@ -1,6 +1,7 @@
 // How many decisions have which margin.
 use crate::summary::{NONE, NOT_JUDGED, one_more};
 use crate::words::{say, say_many, say_number};
+use std::io::Stdout;
 
 pub const BARS: usize = 9;
 
@@ -75,31 +76,31 @@ fn length_of(n: u64, most: u64) -> usize {
     if long < 64 { long as usize } else { 0 }
 }
 
-fn print_bar(name: &[u8], n: u64, most: u64) {
-    say(name);
-    say_many(b'#', length_of(n, most));
-    say(b" ");
-    say_number(n);
-    say(b"\n");
+fn print_bar(stdout: Stdout, name: &[u8], n: u64, most: u64) {
+    say(stdout, name);
+    say_many(stdout, b'#', length_of(n, most));
+    say(stdout, b" ");
+    say_number(stdout, n);
+    say(stdout, b"\n");
 }
 
-fn print_narrow(counts: [u64; BARS], most: u64) {
-    print_bar(b"  1 ms         ", counts[0], most);
-    print_bar(b"  2 ms         ", counts[1], most);
-    print_bar(b"  3 to 4 ms    ", counts[2], most);
-    print_bar(b"  5 to 9 ms    ", counts[3], most);
+fn print_narrow(stdout: Stdout, counts: [u64; BARS], most: u64) {
+    print_bar(stdout, b"  1 ms         ", counts[0], most);
+    print_bar(stdout, b"  2 ms         ", counts[1], most);
+    print_bar(stdout, b"  3 to 4 ms    ", counts[2], most);
+    print_bar(stdout, b"  5 to 9 ms    ", counts[3], most);
 }
 
-fn print_wide(counts: [u64; BARS], most: u64) {
-    print_bar(b"  10 to 19 ms  ", counts[4], most);
-    print_bar(b"  20 to 49 ms  ", counts[5], most);
-    print_bar(b"  50 to 99 ms  ", counts[6], most);
-    print_bar(b"  from 100 ms  ", counts[7], most);
-    print_bar(b"  none         ", counts[8], most);
+fn print_wide(stdout: Stdout, counts: [u64; BARS], most: u64) {
+    print_bar(stdout, b"  10 to 19 ms  ", counts[4], most);
+    print_bar(stdout, b"  20 to 49 ms  ", counts[5], most);
+    print_bar(stdout, b"  50 to 99 ms  ", counts[6], most);
+    print_bar(stdout, b"  from 100 ms  ", counts[7], most);
+    print_bar(stdout, b"  none         ", counts[8], most);
 }
 
-pub fn print_counts(counts: [u64; BARS]) {
+pub fn print_counts(stdout: Stdout, counts: [u64; BARS]) {
     let most = largest(counts);
-    print_narrow(counts, most);
-    print_wide(counts, most);
+    print_narrow(stdout, counts, most);
+    print_wide(stdout, counts, most);
 }

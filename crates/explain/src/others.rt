@@ -161,7 +161,7 @@ fn number_of_item(item: Item) -> u64 {
     match item {
         Item::Character(_, _) => word,
         Item::Mark(_) => word,
-        Item::Together(_, _, _) => std::num::wrapping_add_u64(word, PAIR),
+        Item::Together(_, _, _) => word.wrapping_add(PAIR),
     }
 }
 

@@ -7,6 +7,7 @@ use crate::{others, summary};
 use engine::{Items, Times};
 use margins::Due;
 use rules::{Event, Face, Item, Key, Lag, Machine, Resting};
+use std::io::Stdout;
 
 // So many events fit.
 pub const MOST: u64 = 256;
@@ -237,62 +238,62 @@ fn across(span: Span, stamp: u64) -> u64 {
     LEFT
 }
 
-fn say_at(name: &[u8], n: u64) {
-    say(name);
-    say(b"=\"");
-    say_number(n);
-    say(b"\"");
+fn say_at(stdout: Stdout, name: &[u8], n: u64) {
+    say(stdout, name);
+    say(stdout, b"=\"");
+    say_number(stdout, n);
+    say(stdout, b"\"");
 }
 
 // The front of an element.
-fn say_class(element: &[u8], class: &[u8]) {
-    say(element);
-    say(b" class=\"");
-    say(class);
-    say(b"\"");
+fn say_class(stdout: Stdout, element: &[u8], class: &[u8]) {
+    say(stdout, element);
+    say(stdout, b" class=\"");
+    say(stdout, class);
+    say(stdout, b"\"");
 }
 
 // A word in XML, in which some characters are written by name, and two can't stand at all.
-fn say_escaped(word: u16) {
+fn say_escaped(stdout: Stdout, word: u16) {
     match word {
         0 => {}
-        1 => say(b"&lt;L&gt;"),
-        2 => say(b"&lt;R&gt;"),
-        38 => say(b"&amp;"),
-        60 => say(b"&lt;"),
-        62 => say(b"&gt;"),
-        65534 => say(b"?"),
-        65535 => say(b"?"),
-        _ => say_word(word),
+        1 => say(stdout, b"&lt;L&gt;"),
+        2 => say(stdout, b"&lt;R&gt;"),
+        38 => say(stdout, b"&amp;"),
+        60 => say(stdout, b"&lt;"),
+        62 => say(stdout, b"&gt;"),
+        65534 => say(stdout, b"?"),
+        65535 => say(stdout, b"?"),
+        _ => say_word(stdout, word),
     }
 }
 
 // The same of what is kept; an empty face as `-`.
-fn say_kept(word: u64) {
+fn say_kept(stdout: Stdout, word: u64) {
     if word < EMPTY {
-        say_escaped(word as u16);
+        say_escaped(stdout, word as u16);
         return;
     }
-    say(b"-");
+    say(stdout, b"-");
 }
 
 // A bar from x to its right end.
-fn print_bar(class: &[u8], x: u64, y: u64, right: u64) {
+fn print_bar(stdout: Stdout, class: &[u8], x: u64, y: u64, right: u64) {
     let width = if x < right { right - x } else { 1 };
-    say_class(b"<rect", class);
-    say_at(b" x", x);
-    say_at(b" y", y);
-    say_at(b" width", width);
-    say(b" height=\"18\"/>\n");
+    say_class(stdout, b"<rect", class);
+    say_at(stdout, b" x", x);
+    say_at(stdout, b" y", y);
+    say_at(stdout, b" width", width);
+    say(stdout, b" height=\"18\"/>\n");
 }
 
-fn print_line(class: &[u8], x: u64, y: u64, right: u64, bottom: u64) {
-    say_class(b"<line", class);
-    say_at(b" x1", x);
-    say_at(b" y1", y);
-    say_at(b" x2", right);
-    say_at(b" y2", bottom);
-    say(b"/>\n");
+fn print_line(stdout: Stdout, class: &[u8], x: u64, y: u64, right: u64, bottom: u64) {
+    say_class(stdout, b"<line", class);
+    say_at(stdout, b" x1", x);
+    say_at(stdout, b" y1", y);
+    say_at(stdout, b" x2", right);
+    say_at(stdout, b" y2", bottom);
+    say(stdout, b"/>\n");
 }
 
 // So far inside a bar.
@@ -306,46 +307,46 @@ fn inside(x: u64, by: u64) -> u64 {
 }
 
 // The front of a text.
-fn say_text(class: &[u8], x: u64, y: u64) {
-    say_class(b"<text", class);
-    say_at(b" x", x);
-    say_at(b" y", y);
-    say(b">");
+fn say_text(stdout: Stdout, class: &[u8], x: u64, y: u64) {
+    say_class(stdout, b"<text", class);
+    say_at(stdout, b" x", x);
+    say_at(stdout, b" y", y);
+    say(stdout, b">");
 }
 
-fn print_words(class: &[u8], x: u64, y: u64, text: &[u8]) {
-    say_text(class, x, y);
-    say(text);
-    say(b"</text>\n");
+fn print_words(stdout: Stdout, class: &[u8], x: u64, y: u64, text: &[u8]) {
+    say_text(stdout, class, x, y);
+    say(stdout, text);
+    say(stdout, b"</text>\n");
 }
 
-fn print_time(class: &[u8], x: u64, y: u64, n: u64) {
-    say_text(class, x, y);
-    say_number(n);
-    say(b" ms</text>\n");
+fn print_time(stdout: Stdout, class: &[u8], x: u64, y: u64, n: u64) {
+    say_text(stdout, class, x, y);
+    say_number(stdout, n);
+    say(stdout, b" ms</text>\n");
 }
 
-fn print_margin(x: u64, margin: u64, later: bool) {
-    say_text(b"margin", x, ROW_MARGIN + 12);
-    say_number(margin);
-    summary::say_side(later);
-    say(b"</text>\n");
+fn print_margin(stdout: Stdout, x: u64, margin: u64, later: bool) {
+    say_text(stdout, b"margin", x, ROW_MARGIN + 12);
+    say_number(stdout, margin);
+    summary::say_side(stdout, later);
+    say(stdout, b"</text>\n");
 }
 
-fn print_both(x: u64, word: u64, other: u64) {
-    say_text(b"line", x, ROW_LINE);
-    say_kept(word);
-    say_kept(other);
-    say(b"</text>\n");
+fn print_both(stdout: Stdout, x: u64, word: u64, other: u64) {
+    say_text(stdout, b"line", x, ROW_LINE);
+    say_kept(stdout, word);
+    say_kept(stdout, other);
+    say(stdout, b"</text>\n");
 }
 
 // A key's number and its plain face, in a bar.
-fn print_name(x: u64, y: u64, key: u64, word: u16) {
-    say_text(b"name", inside(x, 2), inside(y, 14));
-    say_number(key);
-    say(b" ");
-    say_escaped(word);
-    say(b"</text>\n");
+fn print_name(stdout: Stdout, x: u64, y: u64, key: u64, word: u16) {
+    say_text(stdout, b"name", inside(x, 2), inside(y, 14));
+    say_number(stdout, key);
+    say(stdout, b" ");
+    say_escaped(stdout, word);
+    say(stdout, b"</text>\n");
 }
 
 // Whether event number j releases what event number i pressed.
@@ -390,104 +391,112 @@ fn letter_row(key: u64) -> u64 {
     ROW_D
 }
 
-fn print_letter(key: u64, x: u64, right: u64) {
+fn print_letter(stdout: Stdout, key: u64, x: u64, right: u64) {
     if key < 31 {
         let y = letter_row(key);
-        print_bar(b"letter", x, y, right);
-        print_name(x, y, key, layout::code_point(Key(key as u8), Face::Plain));
+        print_bar(stdout, b"letter", x, y, right);
+        print_name(
+            stdout,
+            x,
+            y,
+            key,
+            layout::code_point(Key(key as u8), Face::Plain),
+        );
     }
 }
 
-fn print_thumb(key: u64, x: u64, right: u64) {
+fn print_thumb(stdout: Stdout, key: u64, x: u64, right: u64) {
     if key == 0 {
-        print_bar(b"thumb", x, ROW_L, right);
+        print_bar(stdout, b"thumb", x, ROW_L, right);
         return;
     }
-    print_bar(b"thumb", x, ROW_R, right);
+    print_bar(stdout, b"thumb", x, ROW_R, right);
 }
 
-fn draw_press(kind: u64, key: u64, x: u64, right: u64) {
+fn draw_press(stdout: Stdout, kind: u64, key: u64, x: u64, right: u64) {
     match kind {
-        1 => print_letter(key, x, right),
-        3 => print_thumb(key, x, right),
-        5 => print_words(b"name", x, ROW_DUE, b"fn"),
+        1 => print_letter(stdout, key, x, right),
+        3 => print_thumb(stdout, key, x, right),
+        5 => print_words(stdout, b"name", x, ROW_DUE, b"fn"),
         _ => {}
     }
 }
 
 // The bar of a press.
-fn print_press(rows: &[u64], i: u64, count: u64, span: Span) {
+fn print_press(stdout: Stdout, rows: &[u64], i: u64, count: u64, span: Span) {
     let x = across(span, field(rows, i, STAMP));
     let right = across(span, lasts_to(rows, i, count, span.last));
-    draw_press(field(rows, i, KIND), field(rows, i, KEY), x, right);
+    draw_press(stdout, field(rows, i, KIND), field(rows, i, KEY), x, right);
 }
 
 // A tick where a deadline was set, if it lies in the picture.
-fn print_deadline(rows: &[u64], i: u64, span: Span) {
+fn print_deadline(stdout: Stdout, rows: &[u64], i: u64, span: Span) {
     let due = field(rows, i, DUE);
     if due == 0 {
         return;
     }
     if due - 1 <= span.last {
         let x = across(span, due - 1);
-        print_line(b"due", x, ROW_DUE - 10, x, ROW_DUE + 4);
+        print_line(stdout, b"due", x, ROW_DUE - 10, x, ROW_DUE + 4);
     }
 }
 
 // The time that decided, and how many milliseconds would have turned the decision.
-fn print_decision(rows: &[u64], i: u64, x: u64, span: Span) {
+fn print_decision(stdout: Stdout, rows: &[u64], i: u64, x: u64, span: Span) {
     let until = field(rows, i, UNTIL);
     let began = field(rows, i, BEGAN);
     let margin = field(rows, i, MARGIN);
     if margin < NONE {
-        print_margin(x, margin, field(rows, i, LATER) == 1);
+        print_margin(stdout, x, margin, field(rows, i, LATER) == 1);
         if began < until {
             let right = across(span, until);
             print_line(
+                stdout,
                 b"gap",
                 across(span, began),
                 ROW_GAP - 12,
                 right,
                 ROW_GAP - 12,
             );
-            print_time(b"small middle", right, ROW_GAP + 4, until - began);
+            print_time(stdout, b"small middle", right, ROW_GAP + 4, until - began);
         }
     }
 }
 
 // What an event committed.
-fn print_commit(rows: &[u64], i: u64, span: Span) {
+fn print_commit(stdout: Stdout, rows: &[u64], i: u64, span: Span) {
     let word = field(rows, i, FIRST);
     let other = field(rows, i, SECOND);
     let x = across(span, field(rows, i, STAMP));
     if word != 0 {
-        print_both(x, word, other);
+        print_both(stdout, x, word, other);
     }
-    print_decision(rows, i, x, span);
+    print_decision(stdout, rows, i, x, span);
 }
 
-fn print_event(rows: &[u64], i: u64, count: u64, span: Span) {
-    print_press(rows, i, count, span);
-    print_deadline(rows, i, span);
-    print_commit(rows, i, span);
+fn print_event(stdout: Stdout, rows: &[u64], i: u64, count: u64, span: Span) {
+    print_press(stdout, rows, i, count, span);
+    print_deadline(stdout, rows, i, span);
+    print_commit(stdout, rows, i, span);
 }
 
-fn print_events(rows: &[u64], count: u64, span: Span) {
+fn print_events(stdout: Stdout, rows: &[u64], count: u64, span: Span) {
     let mut i = 0;
     while i < count {
-        print_event(rows, i, count, span);
+        print_event(stdout, rows, i, count, span);
         i += 1;
     }
 }
 
-fn print_ends(span: Span) {
-    print_time(b"small", LEFT, 18, span.first);
-    print_time(b"small end", RIGHT, 18, span.last);
+fn print_ends(stdout: Stdout, span: Span) {
+    print_time(stdout, b"small", LEFT, 18, span.first);
+    print_time(stdout, b"small end", RIGHT, 18, span.last);
 }
 
 // What every picture has: how it looks, and the names of its rows.
-fn print_head() {
+fn print_head(stdout: Stdout) {
     say(
+        stdout,
         b"<svg xmlns=\"http://www.w3.org/2000/svg\" viewBox=\"0 0 1200 280\" width=\"1200\" height=\"280\">
 <style>
 text{font-family:sans-serif;font-size:13px}.line{font-size:20px;text-anchor:middle}.end{text-anchor:end}
@@ -511,7 +520,7 @@ text{font-family:sans-serif;font-size:13px}.line{font-size:20px;text-anchor:midd
 }
 
 // The picture of so many events.
-pub fn print_picture(rows: &[u64], count: u64) {
+pub fn print_picture(stdout: Stdout, rows: &[u64], count: u64) {
     let first = field(rows, 0, STAMP);
     let last = if 0 < count {
         field(rows, count - 1, STAMP)
@@ -522,8 +531,8 @@ pub fn print_picture(rows: &[u64], count: u64) {
         first: first,
         last: last,
     };
-    print_head();
-    print_ends(span);
-    print_events(rows, count, span);
-    say(b"</svg>\n");
+    print_head(stdout);
+    print_ends(stdout, span);
+    print_events(stdout, rows, count, span);
+    say(stdout, b"</svg>\n");
 }

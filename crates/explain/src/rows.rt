@@ -6,12 +6,14 @@ use engine::{Items, Times};
 use margins::Due;
 use rules::{Event, Machine, Resting};
 use status_line::put_bytes;
+use std::io::Stdout;
 
 // Room for what stands before a sentence, blanks at first: at most 64 columns and 55 bytes of the screen.
 const ROOM: usize = 192;
 
-pub fn print_head() {
+pub fn print_head(stdout: Stdout) {
     say(
+        stdout,
         b"stamp         event    late       state due           screen                 what and why\n",
     );
 }
@@ -75,6 +77,7 @@ fn put_rest(out: &mut [u8], at: usize, resting: Resting, due: Due, tail: [u16; T
 
 // All that stands before the sentence of an accepted event.
 fn say_columns(
+    stdout: Stdout,
     event: Event,
     late: bool,
     items: Items,
@@ -86,11 +89,12 @@ fn say_columns(
     let front = put_front(&mut out, event);
     let behind = put_late(&mut out, front, late, items);
     let n = put_rest(&mut out, behind, resting, due, tail);
-    words::say_front(&out, n);
+    words::say_front(stdout, &out, n);
 }
 
 // The row of an accepted event that left a machine.
 pub fn print_row(
+    stdout: Stdout,
     list: &[u32],
     times: Times,
     machine: Machine,
@@ -102,6 +106,7 @@ pub fn print_row(
     let resting = after.resting;
     let numbers = why::numbers_at(list, times, machine, event);
     say_columns(
+        stdout,
         event,
         numbers.late,
         items,
@@ -109,33 +114,34 @@ pub fn print_row(
         why::deadline_of(list, times, after),
         tail,
     );
-    sentences::say_sentence(list, times, machine, event, items);
-    say(b"\n");
+    sentences::say_sentence(stdout, list, times, machine, event, items);
+    say(stdout, b"\n");
 }
 
 // Why an event is refused.
-fn say_refusal(number: u8) {
+fn say_refusal(stdout: Stdout, number: u8) {
     match number {
-        3 => say(b": kind or key not allowed\n"),
-        4 => say(b": stamp above the largest\n"),
-        5 => say(b": stamp before the last accepted one\n"),
-        11 => say(b": press of a new key while 6 are held\n"),
-        _ => say(b"\n"),
+        3 => say(stdout, b": kind or key not allowed\n"),
+        4 => say(stdout, b": stamp above the largest\n"),
+        5 => say(stdout, b": stamp before the last accepted one\n"),
+        11 => say(stdout, b": press of a new key while 6 are held\n"),
+        _ => say(stdout, b"\n"),
     }
 }
 
 // The row of a refused event.
-pub fn print_refused(event: Event, number: u8) {
+pub fn print_refused(stdout: Stdout, event: Event, number: u8) {
     let mut out = [b' '; ROOM];
     let n = put_front(&mut out, event);
-    words::say_front(&out, n);
-    say(b"refused ");
-    words::say_number(number as u64);
-    say_refusal(number);
+    words::say_front(stdout, &out, n);
+    say(stdout, b"refused ");
+    words::say_number(stdout, number as u64);
+    say_refusal(stdout, number);
 }
 
 // The reason of one committed character.
 pub fn print_why(
+    stdout: Stdout,
     list: &[u32],
     times: Times,
     machine: Machine,
@@ -144,21 +150,21 @@ pub fn print_why(
     number: u64,
 ) {
     let stamp = event.stamp;
-    say(b"character ");
-    words::say_number(number);
-    say(b", at ");
-    words::say_number(stamp.0);
-    say(b": ");
-    sentences::say_sentence(list, times, machine, event, items);
-    say(b"\n");
+    say(stdout, b"character ");
+    words::say_number(stdout, number);
+    say(stdout, b", at ");
+    words::say_number(stdout, stamp.0);
+    say(stdout, b": ");
+    sentences::say_sentence(stdout, list, times, machine, event, items);
+    say(stdout, b"\n");
 }
 
 // The event that led to a state, where it committed nothing.
-pub fn print_led(list: &[u32], times: Times, machine: Machine, event: Event) {
+pub fn print_led(stdout: Stdout, list: &[u32], times: Times, machine: Machine, event: Event) {
     let stamp = event.stamp;
-    say(b"at ");
-    words::say_number(stamp.0);
-    say(b": ");
-    sentences::say_sentence(list, times, machine, event, Items::None);
-    say(b"\n");
+    say(stdout, b"at ");
+    words::say_number(stdout, stamp.0);
+    say(stdout, b": ");
+    sentences::say_sentence(stdout, list, times, machine, event, Items::None);
+    say(stdout, b"\n");
 }

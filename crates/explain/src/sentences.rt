@@ -6,6 +6,7 @@ use crate::words::{say, say_items, say_key, say_ms, say_number, say_thumb};
 use engine::{Items, Times};
 use margins::{Compared, Due};
 use rules::{Event, Item, Key, Lag, Machine, Resting, Stamp, Thumb};
+use std::io::Stdout;
 use waits::lag;
 use why::Numbers;
 
@@ -17,28 +18,28 @@ fn thumb_of(key: Key) -> Thumb {
 }
 
 // The thumb with an article.
-fn say_the(thumb: Thumb) {
-    say(b"the ");
-    say_thumb(thumb);
+fn say_the(stdout: Stdout, thumb: Thumb) {
+    say(stdout, b"the ");
+    say_thumb(stdout, thumb);
 }
 
 // A press is a repeat where the key is held.
-fn say_press(held: u32, key: Key) {
-    say_key(key);
+fn say_press(stdout: Stdout, held: u32, key: Key) {
+    say_key(stdout, key);
     if held::is_held(held, key) {
-        say(b" repeated");
+        say(stdout, b" repeated");
         return;
     }
-    say(b" pressed");
+    say(stdout, b" pressed");
 }
 
-fn say_release(held: u32, key: Key) {
-    say_key(key);
+fn say_release(stdout: Stdout, held: u32, key: Key) {
+    say_key(stdout, key);
     if held::is_held(held, key) {
-        say(b" released");
+        say(stdout, b" released");
         return;
     }
-    say(b", not held, released");
+    say(stdout, b", not held, released");
 }
 
 // Whether a thumb is set.
@@ -51,31 +52,31 @@ fn is_set(resting: Resting, thumb: Thumb) -> bool {
     }
 }
 
-fn say_thumb_press(resting: Resting, thumb: Thumb) {
-    say_thumb(thumb);
+fn say_thumb_press(stdout: Stdout, resting: Resting, thumb: Thumb) {
+    say_thumb(stdout, thumb);
     if is_set(resting, thumb) {
-        say(b" pressed again");
+        say(stdout, b" pressed again");
         return;
     }
-    say(b" pressed");
+    say(stdout, b" pressed");
 }
 
-fn say_thumb_release(thumb: Thumb) {
-    say_thumb(thumb);
-    say(b" released");
+fn say_thumb_release(stdout: Stdout, thumb: Thumb) {
+    say_thumb(stdout, thumb);
+    say(stdout, b" released");
 }
 
 // What happened: `key 21 released`.
-fn say_what(held: u32, resting: Resting, event: Event) {
+fn say_what(stdout: Stdout, held: u32, resting: Resting, event: Event) {
     let key = event.key;
     let kind = event.kind;
     match kind {
-        1 => say_press(held, key),
-        2 => say_release(held, key),
-        3 => say_thumb_press(resting, thumb_of(key)),
-        4 => say_thumb_release(thumb_of(key)),
-        5 => say(b"function key pressed"),
-        _ => say(b"tick"),
+        1 => say_press(stdout, held, key),
+        2 => say_release(stdout, held, key),
+        3 => say_thumb_press(stdout, resting, thumb_of(key)),
+        4 => say_thumb_release(stdout, thumb_of(key)),
+        5 => say(stdout, b"function key pressed"),
+        _ => say(stdout, b"tick"),
     }
 }
 
@@ -91,21 +92,21 @@ fn acts_as_tick(held: u32, event: Event) -> bool {
 }
 
 // What began the state that rests.
-fn say_began(resting: Resting) {
+fn say_began(stdout: Stdout, resting: Resting) {
     match resting {
         Resting::S1 => {}
-        Resting::S2(key, _) => say_key(key),
-        Resting::S3(thumb, _) => say_the(thumb),
-        Resting::S4(_, _, thumb, _) => say_the(thumb),
-        Resting::S5(_, _, key, _) => say_key(key),
+        Resting::S2(key, _) => say_key(stdout, key),
+        Resting::S3(thumb, _) => say_the(stdout, thumb),
+        Resting::S4(_, _, thumb, _) => say_the(stdout, thumb),
+        Resting::S5(_, _, key, _) => say_key(stdout, key),
         Resting::S6(thumb, _, _, _, _) => {
-            say_the(thumb);
-            say(b"'s release");
+            say_the(stdout, thumb);
+            say(stdout, b"'s release");
         }
-        Resting::S7(_, _, second, _) => say_key(second),
+        Resting::S7(_, _, second, _) => say_key(stdout, second),
         Resting::S8(key, _, _, _, _) => {
-            say_key(key);
-            say(b"'s release");
+            say_key(stdout, key);
+            say(stdout, b"'s release");
         }
     }
 }
@@ -150,44 +151,44 @@ fn is_own(resting: Resting, event: Event) -> bool {
 }
 
 // How long after what began the state: ` 20 ms after the right thumb`.
-fn say_after(resting: Resting, stamp: Stamp) {
+fn say_after(stdout: Stdout, resting: Resting, stamp: Stamp) {
     if is_idle(resting) {
         return;
     }
-    say(b" ");
-    say_ms(lag(margins::began(resting), stamp));
-    say(b" after ");
-    say_began(resting);
+    say(stdout, b" ");
+    say_ms(stdout, lag(margins::began(resting), stamp));
+    say(stdout, b" after ");
+    say_began(stdout, resting);
 }
 
 // When the event came: after what began the state, or how long that was down.
-fn say_when(resting: Resting, event: Event) {
+fn say_when(stdout: Stdout, resting: Resting, event: Event) {
     let stamp = event.stamp;
     if is_own(resting, event) {
-        say(b" after ");
-        say_ms(lag(margins::began(resting), stamp));
+        say(stdout, b" after ");
+        say_ms(stdout, lag(margins::began(resting), stamp));
         return;
     }
-    say_after(resting, stamp);
+    say_after(stdout, resting, stamp);
 }
 
-fn say_key_down(key: Key) {
-    say_key(key);
-    say(b" was still down");
+fn say_key_down(stdout: Stdout, key: Key) {
+    say_key(stdout, key);
+    say(stdout, b" was still down");
 }
 
 // What stayed as it was until the deadline.
-fn say_missed(resting: Resting) {
+fn say_missed(stdout: Stdout, resting: Resting) {
     match resting {
-        Resting::S4(key, _, _, _) => say_key_down(key),
+        Resting::S4(key, _, _, _) => say_key_down(stdout, key),
         Resting::S5(thumb, _, _, _) => {
-            say_the(thumb);
-            say(b" was still down");
+            say_the(stdout, thumb);
+            say(stdout, b" was still down");
         }
-        Resting::S6(_, _, key, _, _) => say_key_down(key),
-        Resting::S7(_, _, _, _) => say(b"both keys were still down"),
-        Resting::S8(_, _, second, _, _) => say_key_down(second),
-        _ => say(b"nothing followed"),
+        Resting::S6(_, _, key, _, _) => say_key_down(stdout, key),
+        Resting::S7(_, _, _, _) => say(stdout, b"both keys were still down"),
+        Resting::S8(_, _, second, _, _) => say_key_down(stdout, second),
+        _ => say(stdout, b"nothing followed"),
     }
 }
 
@@ -201,93 +202,93 @@ fn is_alone(resting: Resting) -> bool {
 }
 
 // A key or a thumb alone until its deadline: `nothing joined key 21 within 100 ms`.
-fn say_alone(resting: Resting, stamp: Stamp) {
-    say(b"nothing joined ");
-    say_began(resting);
-    say(b" within ");
-    say_ms(lag(margins::began(resting), stamp));
+fn say_alone(stdout: Stdout, resting: Resting, stamp: Stamp) {
+    say(stdout, b"nothing joined ");
+    say_began(stdout, resting);
+    say(stdout, b" within ");
+    say_ms(stdout, lag(margins::began(resting), stamp));
 }
 
 // The line "late": `key 21 was still down 30 ms after the right thumb`.
-fn say_late(resting: Resting, due: Due) {
+fn say_late(stdout: Stdout, resting: Resting, due: Due) {
     match due {
         Due::Never => {}
         Due::At(stamp) => {
             if is_alone(resting) {
-                say_alone(resting, stamp);
+                say_alone(stdout, resting, stamp);
                 return;
             }
-            say_missed(resting);
-            say_after(resting, stamp);
+            say_missed(stdout, resting);
+            say_after(stdout, resting, stamp);
         }
     }
 }
 
 // `, which came 30 ms after `.
-fn say_came(gap: Lag) {
-    say(b", which came ");
-    say_ms(gap);
-    say(b" after ");
+fn say_came(stdout: Stdout, gap: Lag) {
+    say(stdout, b", which came ");
+    say_ms(stdout, gap);
+    say(stdout, b" after ");
 }
 
-fn say_nearer(nearer: bool) {
+fn say_nearer(stdout: Stdout, nearer: bool) {
     if nearer {
-        say(b"nearer to ");
+        say(stdout, b"nearer to ");
         return;
     }
-    say(b"no nearer to ");
+    say(stdout, b"no nearer to ");
 }
 
 // S4: whether a second character takes the thumb.
-fn say_taken_thumb(key: Key, a: Lag, b: Lag) {
-    say_came(a);
-    say_key(key);
-    say(b"; the thumb is ");
-    say_nearer(waits::second_character_takes_thumb(a, b));
-    say(b"this press than to ");
-    say_key(key);
+fn say_taken_thumb(stdout: Stdout, key: Key, a: Lag, b: Lag) {
+    say_came(stdout, a);
+    say_key(stdout, key);
+    say(stdout, b"; the thumb is ");
+    say_nearer(stdout, waits::second_character_takes_thumb(a, b));
+    say(stdout, b"this press than to ");
+    say_key(stdout, key);
 }
 
 // S5: whether a second thumb takes the character.
-fn say_taken_character(thumb: Thumb, key: Key, a: Lag, b: Lag) {
-    say_came(a);
-    say_the(thumb);
-    say(b"; ");
-    say_key(key);
-    say(b" is ");
-    say_nearer(!waits::second_thumb_takes_character(a, b));
-    say_the(thumb);
-    say(b" than to this press");
+fn say_taken_character(stdout: Stdout, thumb: Thumb, key: Key, a: Lag, b: Lag) {
+    say_came(stdout, a);
+    say_the(stdout, thumb);
+    say(stdout, b"; ");
+    say_key(stdout, key);
+    say(stdout, b" is ");
+    say_nearer(stdout, !waits::second_thumb_takes_character(a, b));
+    say_the(stdout, thumb);
+    say(stdout, b" than to this press");
 }
 
 // S7 and S8: whether a pair stays together.
-fn say_stays(key: Key, second: Key, a: Lag, b: Lag) {
-    say_came(a);
-    say_key(key);
-    say(b"; ");
-    say_key(second);
-    say(b" is ");
-    say_nearer(waits::pair_stays(a, b));
-    say_key(key);
-    say(b" than to this press");
+fn say_stays(stdout: Stdout, key: Key, second: Key, a: Lag, b: Lag) {
+    say_came(stdout, a);
+    say_key(stdout, key);
+    say(stdout, b"; ");
+    say_key(stdout, second);
+    say(stdout, b" is ");
+    say_nearer(stdout, waits::pair_stays(a, b));
+    say_key(stdout, key);
+    say(stdout, b" than to this press");
 }
 
 // S8: the event came after the first key's release; it is compared from the second key on.
-fn say_stays_released(key: Key, second: Key, a: Lag, b: Lag) {
-    say(b" and ");
-    say_ms(b);
-    say(b" after ");
-    say_key(second);
-    say_stays(key, second, a, b);
+fn say_stays_released(stdout: Stdout, key: Key, second: Key, a: Lag, b: Lag) {
+    say(stdout, b" and ");
+    say_ms(stdout, b);
+    say(stdout, b" after ");
+    say_key(stdout, second);
+    say_stays(stdout, key, second, a, b);
 }
 
 // The two gaps of an event between two others.
-fn say_gaps(resting: Resting, a: Lag, b: Lag) {
+fn say_gaps(stdout: Stdout, resting: Resting, a: Lag, b: Lag) {
     match resting {
-        Resting::S4(key, _, _, _) => say_taken_thumb(key, a, b),
-        Resting::S5(thumb, _, key, _) => say_taken_character(thumb, key, a, b),
-        Resting::S7(key, _, second, _) => say_stays(key, second, a, b),
-        Resting::S8(key, _, second, _, _) => say_stays_released(key, second, a, b),
+        Resting::S4(key, _, _, _) => say_taken_thumb(stdout, key, a, b),
+        Resting::S5(thumb, _, key, _) => say_taken_character(stdout, thumb, key, a, b),
+        Resting::S7(key, _, second, _) => say_stays(stdout, key, second, a, b),
+        Resting::S8(key, _, second, _, _) => say_stays_released(stdout, key, second, a, b),
         _ => {}
     }
 }
@@ -307,44 +308,44 @@ fn enough(numbers: Numbers) -> Due {
     }
 }
 
-fn say_needed(resting: Resting, numbers: Numbers) {
+fn say_needed(stdout: Stdout, resting: Resting, numbers: Numbers) {
     match enough(numbers) {
         Due::Never => {}
         Due::At(stamp) => {
-            say(b"; ");
-            say_ms(lag(margins::began(resting), stamp));
-            say(b" were needed");
+            say(stdout, b"; ");
+            say_ms(stdout, lag(margins::began(resting), stamp));
+            say(stdout, b" were needed");
         }
     }
 }
 
 // S8: how much of the second key's time the first one was down.
-fn say_share(overlap: Lag, whole: Lag) {
-    say(b"; both keys were down for ");
-    say_number(overlap.0);
-    say(b" of the second one's ");
-    say_ms(whole);
+fn say_share(stdout: Stdout, overlap: Lag, whole: Lag) {
+    say(stdout, b"; both keys were down for ");
+    say_number(stdout, overlap.0);
+    say(stdout, b" of the second one's ");
+    say_ms(stdout, whole);
 }
 
-fn say_percent(percent: u8) {
-    say(b"; ");
-    say_number(percent as u64);
-    say(b" percent were needed");
+fn say_percent(stdout: Stdout, percent: u8) {
+    say(stdout, b"; ");
+    say_number(stdout, percent as u64);
+    say(stdout, b" percent were needed");
 }
 
 // What was compared.
-fn say_compared(resting: Resting, numbers: Numbers) {
+fn say_compared(stdout: Stdout, resting: Resting, numbers: Numbers) {
     let compared = numbers.compared;
     match compared {
         Compared::Nothing => {}
-        Compared::TakesThumb(a, b) => say_gaps(resting, a, b),
-        Compared::TakesCharacter(a, b) => say_gaps(resting, a, b),
-        Compared::Stays(a, b) => say_gaps(resting, a, b),
-        Compared::Overlaps(_, _, _) => say_needed(resting, numbers),
-        Compared::OverlapsAsPair(_, _, _, _) => say_needed(resting, numbers),
+        Compared::TakesThumb(a, b) => say_gaps(stdout, resting, a, b),
+        Compared::TakesCharacter(a, b) => say_gaps(stdout, resting, a, b),
+        Compared::Stays(a, b) => say_gaps(stdout, resting, a, b),
+        Compared::Overlaps(_, _, _) => say_needed(stdout, resting, numbers),
+        Compared::OverlapsAsPair(_, _, _, _) => say_needed(stdout, resting, numbers),
         Compared::OverlapsOf(percent, overlap, whole) => {
-            say_share(overlap, whole);
-            say_percent(percent);
+            say_share(stdout, overlap, whole);
+            say_percent(stdout, percent);
         }
     }
 }
@@ -359,158 +360,166 @@ fn is_overlap(compared: Compared) -> bool {
 }
 
 // `, not が`.
-fn say_not(items: Items) {
+fn say_not(stdout: Stdout, items: Items) {
     if is_none(items) {
         return;
     }
-    say(b", not ");
-    say_items(items);
+    say(stdout, b", not ");
+    say_items(stdout, items);
 }
 
 // What an overlap that committed nothing might have committed: `: が not yet`.
-fn say_not_yet(items: Items) {
-    say(b": ");
-    say_items(items);
+fn say_not_yet(stdout: Stdout, items: Items) {
+    say(stdout, b": ");
+    say_items(stdout, items);
     if is_none(items) {
         return;
     }
-    say(b" not yet");
+    say(stdout, b" not yet");
 }
 
 // What a longer overlap would have given.
-fn say_wanted(own: Items, items: Items) {
+fn say_wanted(stdout: Stdout, own: Items, items: Items) {
     if is_none(own) {
-        say_not_yet(items);
+        say_not_yet(stdout, items);
         return;
     }
-    say_not(items);
+    say_not(stdout, items);
 }
 
 // What is missing of an overlap: `, not が; 10 ms too early`.
-fn say_missing(stamp: Stamp, own: Items, later: Other) {
+fn say_missing(stdout: Stdout, stamp: Stamp, own: Items, later: Other) {
     match later {
         Other::None => {}
         Other::At(turn, items, _) => {
-            say_wanted(own, items);
-            say(b"; ");
-            say_ms(lag(stamp, turn));
-            say(b" too early");
+            say_wanted(stdout, own, items);
+            say(stdout, b"; ");
+            say_ms(stdout, lag(stamp, turn));
+            say(stdout, b" too early");
         }
     }
 }
 
 // What of it was not needed: `, not か; 0 ms to spare`.
-fn say_spare(stamp: Stamp, sooner: Other) {
+fn say_spare(stdout: Stdout, stamp: Stamp, sooner: Other) {
     match sooner {
         Other::None => {}
         Other::At(turn, items, _) => {
-            say_not(items);
-            say(b"; ");
-            say_ms(lag(waits::later(turn, Lag(1)), stamp));
-            say(b" to spare");
+            say_not(stdout, items);
+            say(stdout, b"; ");
+            say_ms(stdout, lag(waits::later(turn, Lag(1)), stamp));
+            say(stdout, b" to spare");
         }
     }
 }
 
-fn say_together(key: Key, thumb: Thumb) {
-    say_key(key);
-    say(b" and ");
-    say_the(thumb);
-    say(b" together");
+fn say_together(stdout: Stdout, key: Key, thumb: Thumb) {
+    say_key(stdout, key);
+    say(stdout, b" and ");
+    say_the(stdout, thumb);
+    say(stdout, b" together");
 }
 
 // What a decision that commits nothing leaves: two that wait together, or all as it was.
-fn say_left(resting: Resting, after: Resting) {
+fn say_left(stdout: Stdout, resting: Resting, after: Resting) {
     if others::stays(resting, after) {
-        say(b"nothing yet");
+        say(stdout, b"nothing yet");
         return;
     }
     match after {
-        Resting::S4(key, _, thumb, _) => say_together(key, thumb),
-        Resting::S5(thumb, _, key, _) => say_together(key, thumb),
+        Resting::S4(key, _, thumb, _) => say_together(stdout, key, thumb),
+        Resting::S5(thumb, _, key, _) => say_together(stdout, key, thumb),
         Resting::S7(key, _, second, _) => {
-            say_key(key);
-            say(b" and ");
-            say_key(second);
-            say(b" together");
+            say_key(stdout, key);
+            say(stdout, b" and ");
+            say_key(stdout, second);
+            say(stdout, b" together");
         }
-        _ => say(b"nothing yet"),
+        _ => say(stdout, b"nothing yet"),
     }
 }
 
 // Whose character it is.
-fn say_whose(items: Items) {
+fn say_whose(stdout: Stdout, items: Items) {
     let Items::One(item) = items else {
         return;
     };
     match item {
         Item::Character(key, _) => {
-            say(b" for ");
-            say_key(key);
+            say(stdout, b" for ");
+            say_key(stdout, key);
         }
         Item::Mark(_) => {}
-        Item::Together(_, _, _) => say(b" for both keys"),
+        Item::Together(_, _, _) => say(stdout, b" for both keys"),
     }
 }
 
 // What another decision would have been; where it reads as the event's own, also whose character it is.
-fn say_instead(resting: Resting, own: Items, items: Items, after: Resting) {
+fn say_instead(stdout: Stdout, resting: Resting, own: Items, items: Items, after: Resting) {
     if is_none(items) {
-        say_left(resting, after);
+        say_left(stdout, resting, after);
         return;
     }
-    say_items(items);
+    say_items(stdout, items);
     if others::same_words(own, items) {
-        say_whose(items);
+        say_whose(stdout, items);
     }
 }
 
 // `10 ms later`.
-fn say_away(stamp: Stamp, turn: Stamp) {
-    say_number(others::between(stamp, turn));
+fn say_away(stdout: Stdout, stamp: Stamp, turn: Stamp) {
+    say_number(stdout, others::between(stamp, turn));
     if waits::before(stamp, turn) {
-        say(b" ms later");
+        say(stdout, b" ms later");
         return;
     }
-    say(b" ms sooner");
+    say(stdout, b" ms sooner");
 }
 
 // `; が if 10 ms later`.
-fn say_if(resting: Resting, stamp: Stamp, own: Items, other: Other) {
+fn say_if(stdout: Stdout, resting: Resting, stamp: Stamp, own: Items, other: Other) {
     match other {
         Other::None => {}
         Other::At(turn, items, after) => {
-            say(b"; ");
-            say_instead(resting, own, items, after);
-            say(b" if ");
-            say_away(stamp, turn);
+            say(stdout, b"; ");
+            say_instead(stdout, resting, own, items, after);
+            say(stdout, b" if ");
+            say_away(stdout, stamp, turn);
         }
     }
 }
 
-fn say_or(stamp: Stamp, other: Other) {
+fn say_or(stdout: Stdout, stamp: Stamp, other: Other) {
     match other {
         Other::None => {}
         Other::At(turn, _, _) => {
-            say(b" or ");
-            say_away(stamp, turn);
+            say(stdout, b" or ");
+            say_away(stdout, stamp, turn);
         }
     }
 }
 
 // Both other decisions; where they are the same, it is said once.
-fn say_others(resting: Resting, stamp: Stamp, own: Items, later: Other, sooner: Other) {
+fn say_others(
+    stdout: Stdout,
+    resting: Resting,
+    stamp: Stamp,
+    own: Items,
+    later: Other,
+    sooner: Other,
+) {
     if others::same_others(later, sooner) {
-        say_if(resting, stamp, own, sooner);
-        say_or(stamp, later);
+        say_if(stdout, resting, stamp, own, sooner);
+        say_or(stdout, stamp, later);
         return;
     }
-    say_if(resting, stamp, own, later);
-    say_if(resting, stamp, own, sooner);
+    say_if(stdout, resting, stamp, own, later);
+    say_if(stdout, resting, stamp, own, sooner);
 }
 
 // What the same event would have done at the next stamp that decides otherwise, and at the last one before.
 fn say_otherwise(
+    stdout: Stdout,
     list: &[u32],
     times: Times,
     machine: Machine,
@@ -526,60 +535,67 @@ fn say_otherwise(
     let later = others::other_at(list, times, machine, event, behind);
     let sooner = others::other_at(list, times, machine, event, front);
     if is_overlap(compared) {
-        say_missing(stamp, own, later);
-        say_spare(stamp, sooner);
+        say_missing(stdout, stamp, own, later);
+        say_spare(stdout, stamp, sooner);
         return;
     }
-    say_others(resting, stamp, own, later, sooner);
+    say_others(stdout, resting, stamp, own, later, sooner);
 }
 
-fn say_committed(items: Items) {
+fn say_committed(stdout: Stdout, items: Items) {
     if is_none(items) {
         return;
     }
-    say(b": ");
-    say_items(items);
+    say(stdout, b": ");
+    say_items(stdout, items);
 }
 
 // What was late, and then the event itself, at which nothing rests any more.
-fn say_after_late(machine: Machine, due: Due, event: Event, items: Items) {
+fn say_after_late(stdout: Stdout, machine: Machine, due: Due, event: Event, items: Items) {
     let resting = machine.resting;
-    say_late(resting, due);
-    say_committed(items);
-    say(b"; then ");
-    say_what(machine.held, Resting::S1, event);
+    say_late(stdout, resting, due);
+    say_committed(stdout, items);
+    say(stdout, b"; then ");
+    say_what(stdout, machine.held, Resting::S1, event);
 }
 
 // The event in time.
-fn say_in_time(machine: Machine, numbers: Numbers, event: Event, items: Items) {
+fn say_in_time(stdout: Stdout, machine: Machine, numbers: Numbers, event: Event, items: Items) {
     let resting = machine.resting;
-    say_what(machine.held, resting, event);
-    say_when(resting, event);
-    say_compared(resting, numbers);
-    say_committed(items);
+    say_what(stdout, machine.held, resting, event);
+    say_when(stdout, resting, event);
+    say_compared(stdout, resting, numbers);
+    say_committed(stdout, items);
 }
 
-fn say_tick(held: u32, event: Event) {
+fn say_tick(stdout: Stdout, held: u32, event: Event) {
     if acts_as_tick(held, event) {
-        say(b", as a tick");
+        say(stdout, b", as a tick");
         return;
     }
 }
 
 // What was decided, and by which numbers.
-fn say_decided(machine: Machine, numbers: Numbers, event: Event, items: Items) {
+fn say_decided(stdout: Stdout, machine: Machine, numbers: Numbers, event: Event, items: Items) {
     let due = numbers.due;
     if numbers.late {
-        say_after_late(machine, due, event, items);
+        say_after_late(stdout, machine, due, event, items);
         return;
     }
-    say_in_time(machine, numbers, event, items);
+    say_in_time(stdout, machine, numbers, event, items);
 }
 
 // The sentence of an accepted event.
-pub fn say_sentence(list: &[u32], times: Times, machine: Machine, event: Event, items: Items) {
+pub fn say_sentence(
+    stdout: Stdout,
+    list: &[u32],
+    times: Times,
+    machine: Machine,
+    event: Event,
+    items: Items,
+) {
     let numbers = why::numbers_at(list, times, machine, event);
-    say_decided(machine, numbers, event, items);
-    say_tick(machine.held, event);
-    say_otherwise(list, times, machine, event, numbers, items);
+    say_decided(stdout, machine, numbers, event, items);
+    say_tick(stdout, machine.held, event);
+    say_otherwise(stdout, list, times, machine, event, numbers, items);
 }

@@ -2,6 +2,7 @@
 use crate::words::{say, say_counted, say_number, say_word};
 use engine::Items;
 use rules::{Face, Item};
+use std::io::Stdout;
 
 // So many closest calls are kept.
 pub const CALLS: usize = 5;
@@ -190,76 +191,84 @@ fn is_call(call: Call) -> bool {
 }
 
 // Which side another decision lies on.
-pub fn say_side(later: bool) {
+pub fn say_side(stdout: Stdout, later: bool) {
     if later {
-        say(b" ms later");
+        say(stdout, b" ms later");
         return;
     }
-    say(b" ms sooner");
+    say(stdout, b" ms sooner");
 }
 
 // The character; or what was not committed yet.
-fn say_at_stake(character: u64, word: u16) {
+fn say_at_stake(stdout: Stdout, character: u64, word: u16) {
     if character == 0 {
-        say(b": ");
-        say_word(word);
-        say(b" not yet");
+        say(stdout, b": ");
+        say_word(stdout, word);
+        say(stdout, b" not yet");
         return;
     }
-    say(b": character ");
-    say_number(character);
-    say(b", ");
-    say_word(word);
+    say(stdout, b": character ");
+    say_number(stdout, character);
+    say(stdout, b", ");
+    say_word(stdout, word);
 }
 
-fn print_call(call: Call) {
+fn print_call(stdout: Stdout, call: Call) {
     if is_call(call) {
-        say(b"  ");
-        say_number(call.margin);
-        say_side(call.later);
-        say_at_stake(call.character, call.word);
-        say(b", at ");
-        say_number(call.stamp);
-        say(b"\n");
+        say(stdout, b"  ");
+        say_number(stdout, call.margin);
+        say_side(stdout, call.later);
+        say_at_stake(stdout, call.character, call.word);
+        say(stdout, b", at ");
+        say_number(stdout, call.stamp);
+        say(stdout, b"\n");
     }
 }
 
 // The closest calls, closest first.
-pub fn print_calls(calls: [Call; CALLS]) {
+pub fn print_calls(stdout: Stdout, calls: [Call; CALLS]) {
     if is_call(calls[0]) {
-        say(b"closest calls, by how much sooner or later would have decided otherwise:\n");
+        say(
+            stdout,
+            b"closest calls, by how much sooner or later would have decided otherwise:\n",
+        );
     }
-    print_call(calls[0]);
-    print_call(calls[1]);
-    print_call(calls[2]);
-    print_call(calls[3]);
-    print_call(calls[4]);
+    print_call(stdout, calls[0]);
+    print_call(stdout, calls[1]);
+    print_call(stdout, calls[2]);
+    print_call(stdout, calls[3]);
+    print_call(stdout, calls[4]);
 }
 
-fn say_count(n: u64, name: &[u8]) {
-    say_number(n);
-    say(name);
+fn say_count(stdout: Stdout, n: u64, name: &[u8]) {
+    say_number(stdout, n);
+    say(stdout, name);
 }
 
-pub fn print_totals(totals: Totals) {
-    say_counted(totals.events, b" event accepted; ", b" events accepted; ");
-    say_count(totals.committed, b" committed: ");
-    say_count(totals.chords, b" with a thumb, ");
-    say_count(totals.pairs, b" of two letters, ");
-    say_counted(totals.marks, b" mark\n", b" marks\n");
+pub fn print_totals(stdout: Stdout, totals: Totals) {
+    say_counted(
+        stdout,
+        totals.events,
+        b" event accepted; ",
+        b" events accepted; ",
+    );
+    say_count(stdout, totals.committed, b" committed: ");
+    say_count(stdout, totals.chords, b" with a thumb, ");
+    say_count(stdout, totals.pairs, b" of two letters, ");
+    say_counted(stdout, totals.marks, b" mark\n", b" marks\n");
 }
 
 // What waits, or which record was refused, as `play` says it.
-pub fn print_status(number: u32, waiting: u32, offset: usize) {
+pub fn print_status(stdout: Stdout, number: u32, waiting: u32, offset: usize) {
     if number == 0 {
-        say(b"waiting ");
-        say_number(waiting as u64);
-        say(b"\n");
+        say(stdout, b"waiting ");
+        say_number(stdout, waiting as u64);
+        say(stdout, b"\n");
         return;
     }
-    say(b"refused ");
-    say_number(number as u64);
-    say(b" at ");
-    say_number(offset as u64);
-    say(b"\n");
+    say(stdout, b"refused ");
+    say_number(stdout, number as u64);
+    say(stdout, b" at ");
+    say_number(stdout, offset as u64);
+    say(stdout, b"\n");
 }

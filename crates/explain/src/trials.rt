@@ -3,6 +3,7 @@ use crate::summary::one_more;
 use crate::words::{say, say_counted, say_number};
 use engine::{Items, Times};
 use rules::{Event, Item, Machine, Opened, Resting, Settings, Stamp};
+use std::io::Stdout;
 
 pub const TRIALS: usize = 6;
 
@@ -281,38 +282,38 @@ pub fn step_all(
 }
 
 // So many in a hundred, with a digit behind the point.
-fn say_percent(part: u64, whole: u64) {
+fn say_percent(stdout: Stdout, part: u64, whole: u64) {
     if part < 1_000_000_000_000_000 {
         if 0 < whole {
             let tenths = (part * 1000 + whole / 2) / whole;
-            say_number(tenths / 10);
-            say(b".");
-            say_number(tenths % 10);
-            say(b" percent");
+            say_number(stdout, tenths / 10);
+            say(stdout, b".");
+            say_number(stdout, tenths % 10);
+            say(stdout, b" percent");
         }
     }
 }
 
-fn say_share(answers: Answers) {
+fn say_share(stdout: Stdout, answers: Answers) {
     let presses = answers.presses;
     let otherwise = answers.otherwise;
-    say_number(otherwise);
-    say(b" of ");
-    say_counted(presses, b" press", b" presses");
+    say_number(stdout, otherwise);
+    say(stdout, b" of ");
+    say_counted(stdout, presses, b" press", b" presses");
     if 0 < presses {
-        say(b", ");
-        say_percent(otherwise, presses);
+        say(stdout, b", ");
+        say_percent(stdout, otherwise, presses);
     }
 }
 
-fn print_trial(trial: Trial, name: &[u8], value: u64) {
+fn print_trial(stdout: Stdout, trial: Trial, name: &[u8], value: u64) {
     let answers = trial.answers;
     if trial.usable {
-        say(name);
-        say_number(value);
-        say(b": ");
-        say_share(answers);
-        say(b"\n");
+        say(stdout, name);
+        say_number(stdout, value);
+        say(stdout, b": ");
+        say_share(stdout, answers);
+        say(stdout, b"\n");
     }
 }
 
@@ -334,11 +335,11 @@ fn l_of(trial: Trial) -> u64 {
     s.l as u64
 }
 
-pub fn print_trials(trials: [Trial; TRIALS]) {
-    print_trial(trials[0], b"  T=", t_of(trials[0]));
-    print_trial(trials[1], b"  T=", t_of(trials[1]));
-    print_trial(trials[2], b"  J=", j_of(trials[2]));
-    print_trial(trials[3], b"  J=", j_of(trials[3]));
-    print_trial(trials[4], b"  L=", l_of(trials[4]));
-    print_trial(trials[5], b"  L=", l_of(trials[5]));
+pub fn print_trials(stdout: Stdout, trials: [Trial; TRIALS]) {
+    print_trial(stdout, trials[0], b"  T=", t_of(trials[0]));
+    print_trial(stdout, trials[1], b"  T=", t_of(trials[1]));
+    print_trial(stdout, trials[2], b"  J=", j_of(trials[2]));
+    print_trial(stdout, trials[3], b"  J=", j_of(trials[3]));
+    print_trial(stdout, trials[4], b"  L=", l_of(trials[4]));
+    print_trial(stdout, trials[5], b"  L=", l_of(trials[5]));
 }

@@ -1,22 +1,22 @@
 // Words and numbers of an explanation: on standard output, or put at a place of a run that is written later.
 use engine::Items;
-use libc::STDOUT_FILENO;
 use rules::{Event, Item, Key, Lag, Stamp, Thumb};
 use status_line::{put_bytes, put_number};
+use std::io::Stdout;
 
-pub fn say(bytes: &[u8]) {
-    io::write_all(STDOUT_FILENO, bytes);
+pub fn say(stdout: Stdout, bytes: &[u8]) {
+    let _ = stdout.write_all(bytes);
 }
 
 // The front of some bytes, if there are so many.
-pub fn say_front(bytes: &[u8], n: usize) {
+pub fn say_front(stdout: Stdout, bytes: &[u8], n: usize) {
     if n <= bytes.len() {
-        io::write_all(STDOUT_FILENO, &bytes[..n]);
+        let _ = stdout.write_all(&bytes[..n]);
     }
 }
 
-pub fn say_number(n: u64) {
-    io::print_decimal(STDOUT_FILENO, n);
+pub fn say_number(stdout: Stdout, n: u64) {
+    let _ = stdout.print(n);
 }
 
 // The columns of a number, 13 for one that has more: no stamp that is accepted has.
@@ -53,24 +53,24 @@ fn columns_of(n: u64) -> usize {
 }
 
 // A count and what is counted, one or more of it.
-pub fn say_counted(n: u64, one: &[u8], more: &[u8]) {
-    say_number(n);
+pub fn say_counted(stdout: Stdout, n: u64, one: &[u8], more: &[u8]) {
+    say_number(stdout, n);
     if n == 1 {
-        say(one);
+        say(stdout, one);
         return;
     }
-    say(more);
+    say(stdout, more);
 }
 
-pub fn say_ms(lag: Lag) {
-    say_number(lag.0);
-    say(b" ms");
+pub fn say_ms(stdout: Stdout, lag: Lag) {
+    say_number(stdout, lag.0);
+    say(stdout, b" ms");
 }
 
 // A byte so many times, at most 64.
-pub fn say_many(byte: u8, n: usize) {
+pub fn say_many(stdout: Stdout, byte: u8, n: usize) {
     let bytes = [byte; 64];
-    say_front(&bytes, n);
+    say_front(stdout, &bytes, n);
 }
 
 // The place behind blanks up to a column, behind one where it is passed. They stand there already.
@@ -98,46 +98,46 @@ pub fn wider(used: usize, word: u16) -> usize {
     }
 }
 
-pub fn say_thumb(thumb: Thumb) {
+pub fn say_thumb(stdout: Stdout, thumb: Thumb) {
     match thumb {
-        Thumb::Left => say(b"left thumb"),
-        Thumb::Right => say(b"right thumb"),
+        Thumb::Left => say(stdout, b"left thumb"),
+        Thumb::Right => say(stdout, b"right thumb"),
     }
 }
 
-pub fn say_key(key: Key) {
-    say(b"key ");
-    say_number(key.0 as u64);
+pub fn say_key(stdout: Stdout, key: Key) {
+    say(stdout, b"key ");
+    say_number(stdout, key.0 as u64);
 }
 
 // A word as it is printed; an empty face as `-`.
-pub fn say_word(word: u16) {
+pub fn say_word(stdout: Stdout, word: u16) {
     let mut bytes = [b'-'; 4];
     if word == 0 {
-        say_front(&bytes, 1);
+        say_front(stdout, &bytes, 1);
         return;
     }
     let n = text::put(&mut bytes, 0, word);
-    say_front(&bytes, n);
+    say_front(stdout, &bytes, n);
 }
 
 // An item in a sentence.
-fn say_item(item: Item) {
+fn say_item(stdout: Stdout, item: Item) {
     let word = layout::word(item);
     if word == 0 {
-        say(b"an empty face");
+        say(stdout, b"an empty face");
         return;
     }
-    say_word(word);
+    say_word(stdout, word);
 }
 
-pub fn say_items(items: Items) {
+pub fn say_items(stdout: Stdout, items: Items) {
     match items {
-        Items::None => say(b"nothing yet"),
-        Items::One(item) => say_item(item),
+        Items::None => say(stdout, b"nothing yet"),
+        Items::One(item) => say_item(stdout, item),
         Items::Two(item, other) => {
-            say_item(item);
-            say_item(other);
+            say_item(stdout, item);
+            say_item(stdout, other);
         }
     }
 }

@@ -6,70 +6,70 @@
 ghost use Rattle.std.specs.Prelude.{pos, ◌<ℤ◌};
 
 use engine::{Asked, Items, Sendings, Times};
-use libc::STDOUT_FILENO;
 use rules::{Event, Item, Key, Machine, Opened, Resting, Settings, Stamp};
+use std::io::Stdout;
 
-fn say(text: &[u8]) {
-    io::write_all(STDOUT_FILENO, text);
+fn say(stdout: Stdout, text: &[u8]) {
+    let _ = stdout.write_all(text);
 }
 
-fn say_number(n: u64) {
-    io::print_decimal(STDOUT_FILENO, n);
+fn say_number(stdout: Stdout, n: u64) {
+    let _ = stdout.print(n);
 }
 
 // A text in which each `#` stands for the next of up to four numbers.
-fn say_with(text: &[u8], numbers: [u64; 4]) {
+fn say_with(stdout: Stdout, text: &[u8], numbers: [u64; 4]) {
     let mut next = 0;
     let mut i = 0;
     while i < text.len() {
         if text[i] == b'#' {
-            say_number(numbers[next % 4]);
+            say_number(stdout, numbers[next % 4]);
             next = next % 4 + 1;
         } else {
             let byte = [text[i]];
-            say(&byte);
+            say(stdout, &byte);
         }
         i += 1;
     }
 }
 
 // A sign in UTF-8. Every character of the layout takes three bytes.
-fn say_sign(word: u16) {
+fn say_sign(stdout: Stdout, word: u16) {
     match word {
-        0 => say(b"-"),
-        1 => say(b"<L>"),
-        2 => say(b"<R>"),
+        0 => say(stdout, b"-"),
+        1 => say(stdout, b"<L>"),
+        2 => say(stdout, b"<R>"),
         _ => {
             let bytes = [
                 (224 + word / 4096 % 16) as u8,
                 (128 + word / 64 % 64) as u8,
                 (128 + word % 64) as u8,
             ];
-            say(&bytes);
+            say(stdout, &bytes);
         }
     }
 }
 
-fn say_item(item: Item) {
-    say(b" ");
-    say_sign(layout::word(item));
+fn say_item(stdout: Stdout, item: Item) {
+    say(stdout, b" ");
+    say_sign(stdout, layout::word(item));
 }
 
-fn say_items(items: Items) {
+fn say_items(stdout: Stdout, items: Items) {
     match items {
-        Items::None => say(b" nothing"),
-        Items::One(item) => say_item(item),
+        Items::None => say(stdout, b" nothing"),
+        Items::One(item) => say_item(stdout, item),
         Items::Two(item, other) => {
-            say_item(item);
-            say_item(other);
+            say_item(stdout, item);
+            say_item(stdout, other);
         }
     }
 }
 
-fn say_sent(word: u16) {
+fn say_sent(stdout: Stdout, word: u16) {
     if word != 0 {
-        say(b" ");
-        say_sign(word);
+        say(stdout, b" ");
+        say_sign(stdout, word);
     }
 }
 
@@ -82,25 +82,25 @@ fn sends_nothing(sent: Sendings) -> bool {
     signs.first == 0
 }
 
-fn say_backspaces(n: u8) {
+fn say_backspaces(stdout: Stdout, n: u8) {
     if 0 < n {
-        say(b" <-");
+        say(stdout, b" <-");
     }
     if 1 < n {
-        say(b" <-");
+        say(stdout, b" <-");
     }
 }
 
-fn say_sendings(sent: Sendings) {
+fn say_sendings(stdout: Stdout, sent: Sendings) {
     if sends_nothing(sent) {
-        say(b" nothing");
+        say(stdout, b" nothing");
     }
-    say_backspaces(sent.backspaces);
+    say_backspaces(stdout, sent.backspaces);
     let signs = sent.signs;
-    say_sent(signs.first);
-    say_sent(signs.second);
-    say_sent(signs.third);
-    say_sent(signs.fourth);
+    say_sent(stdout, signs.first);
+    say_sent(stdout, signs.second);
+    say_sent(stdout, signs.third);
+    say_sent(stdout, signs.fourth);
 }
 
 // How far a negative number lies below 0. (0 - n would not fit for the least of them.)
@@ -111,15 +111,15 @@ fn below_zero(n: i64) -> u64
 }
 
 // A signed count of milliseconds, its sign before it.
-fn say_signed(n: i64) {
+fn say_signed(stdout: Stdout, n: i64) {
     if n < 0 {
-        say(b"-");
-        say_number(below_zero(n));
+        say(stdout, b"-");
+        say_number(stdout, below_zero(n));
     } else {
         if n != 0 {
-            say(b"+");
+            say(stdout, b"+");
         }
-        say_number(n as u64);
+        say_number(stdout, n as u64);
     }
 }
 
@@ -136,54 +136,59 @@ fn refusal(asked: Asked) -> u64 {
 }
 
 // How far a machine's deadline lies, or why that is refused.
-fn say_asked(asked: Asked) {
+fn say_asked(stdout: Stdout, asked: Asked) {
     let number = refusal(asked);
     if number != 0 {
-        say_with(b"refused #", [number, 0, 0, 0]);
+        say_with(stdout, b"refused #", [number, 0, 0, 0]);
         return;
     }
     match asked {
-        Asked::In(n) => say_signed(n),
-        _ => say(b"none"),
+        Asked::In(n) => say_signed(stdout, n),
+        _ => say(stdout, b"none"),
     }
 }
 
 // The same with a text before it, at the end of a line.
-fn end_with(text: &[u8], asked: Asked) {
-    say(text);
-    say_asked(asked);
-    say(b"\n");
+fn end_with(stdout: Stdout, text: &[u8], asked: Asked) {
+    say(stdout, text);
+    say_asked(stdout, asked);
+    say(stdout, b"\n");
 }
 
 // An event and what it gave back: the number, the items and what is sent.
-fn say_given(event: Event, number: u8, items: Items, sent: Sendings) {
+fn say_given(stdout: Stdout, event: Event, number: u8, items: Items, sent: Sendings) {
     let key = event.key;
     let stamp = event.stamp;
     say_with(
+        stdout,
         b" kind # key # @#: #, commits",
         [event.kind as u64, key.0 as u64, stamp.0, number as u64],
     );
-    say_items(items);
-    say(b", sends");
-    say_sendings(sent);
+    say_items(stdout, items);
+    say(stdout, b", sends");
+    say_sendings(stdout, sent);
 }
 
 // How far a machine's deadline lies from a stamp, on a line.
-fn ask(list: &[u32], times: Times, machine: Machine, stamp: Stamp) {
-    say_with(b"  asked @#", [stamp.0, 0, 0, 0]);
-    end_with(b": ", engine::distance(list, times, machine, stamp));
+fn ask(stdout: Stdout, list: &[u32], times: Times, machine: Machine, stamp: Stamp) {
+    say_with(stdout, b"  asked @#", [stamp.0, 0, 0, 0]);
+    end_with(stdout, b": ", engine::distance(list, times, machine, stamp));
 }
 
 // One event, with what it gave back on a line; the machine after it.
-fn step(list: &[u32], times: Times, machine: Machine, event: Event) -> Machine {
+fn step(stdout: Stdout, list: &[u32], times: Times, machine: Machine, event: Event) -> Machine {
     let answer = engine::step(list, times, machine, event);
     let items = answer.items;
     let sent = answer.sendings;
     let after = answer.machine;
-    say(b" ");
-    say_given(event, answer.number, items, sent);
+    say(stdout, b" ");
+    say_given(stdout, event, answer.number, items, sent);
     let stamp = event.stamp;
-    end_with(b", next ", engine::distance(list, times, after, stamp));
+    end_with(
+        stdout,
+        b", next ",
+        engine::distance(list, times, after, stamp),
+    );
     after
 }
 
@@ -197,8 +202,9 @@ fn stand_in(settings: Settings) -> Machine {
     }
 }
 
-fn open(settings: Settings) -> Machine {
+fn open(stdout: Stdout, settings: Settings) -> Machine {
     say_with(
+        stdout,
         b"T #, J #, L #, solo #",
         [
             settings.t as u64,
@@ -209,12 +215,12 @@ fn open(settings: Settings) -> Machine {
     );
     match Machine::open(settings) {
         Opened::OutOfRange => {
-            say(b": refused 1\n");
+            say(stdout, b": refused 1\n");
             stand_in(settings)
         }
         Opened::Ready(machine) => {
             let longest = engine::longest_wait(settings);
-            say_with(b": opened, longest wait #\n", [longest.0, 0, 0, 0]);
+            say_with(stdout, b": opened, longest wait #\n", [longest.0, 0, 0, 0]);
             machine
         }
     }
@@ -248,26 +254,26 @@ fn settings(row: u64) -> Settings {
 
 // One row, by the digit before it: 0 an event, from which the machine goes on; 1 an event that is tried, and the machine stays as it was;
 // 2 the machine is asked for its deadline; 3 a machine is opened.
-fn play_row(list: &[u32], times: Times, machine: Machine, row: u64) -> Machine {
+fn play_row(stdout: Stdout, list: &[u32], times: Times, machine: Machine, row: u64) -> Machine {
     match row / FRONT_PLACE {
-        0 => step(list, times, machine, event(row)),
+        0 => step(stdout, list, times, machine, event(row)),
         1 => {
-            step(list, times, machine, event(row));
+            step(stdout, list, times, machine, event(row));
             machine
         }
         2 => {
-            ask(list, times, machine, Stamp(row % KEY_PLACE));
+            ask(stdout, list, times, machine, Stamp(row % KEY_PLACE));
             machine
         }
-        _ => open(settings(row)),
+        _ => open(stdout, settings(row)),
     }
 }
 
-fn play(list: &[u32], times: Times, machine: Machine, table: &[u64]) -> Machine {
+fn play(stdout: Stdout, list: &[u32], times: Times, machine: Machine, table: &[u64]) -> Machine {
     let mut machine = machine;
     let mut i = 0;
     while i < table.len() {
-        let after = play_row(list, times, machine, table[i]);
+        let after = play_row(stdout, list, times, machine, table[i]);
         machine = after;
         i += 1;
     }
@@ -364,8 +370,8 @@ const NO_PAIRS: [u64; 73] = [
     1_21_0000000000030,
 ];
 
-fn no_pairs(machine: Machine) -> Machine {
-    play(&[], NO_TIMES, machine, &NO_PAIRS)
+fn no_pairs(stdout: Stdout, machine: Machine) -> Machine {
+    play(stdout, &[], NO_TIMES, machine, &NO_PAIRS)
 }
 
 // T_s 60, N 50: the keys 21 and 22 are lent as a pair, ャ. Both plain letters are shown. Due at 100 they are the pair.
@@ -388,53 +394,58 @@ const ONE_UP: [u64; 4] = [
 // A third letter that is as near as the two are to each other parts them.
 const THIRD_LETTER: [u64; 2] = [1_1_23_0000000000080, 1_1_23_0000000000081];
 
-fn two_letters(machine: Machine) {
+fn two_letters(stdout: Stdout, machine: Machine) {
     let list = [PAIR];
     let times = Times { ts: 60, n: 50 };
-    let both = play(&list, times, machine, &BOTH_DOWN);
-    play(&list, times, both, &ONE_UP);
-    play(&list, times, both, &THIRD_LETTER);
+    let both = play(stdout, &list, times, machine, &BOTH_DOWN);
+    play(stdout, &list, times, both, &ONE_UP);
+    play(stdout, &list, times, both, &THIRD_LETTER);
 }
 
 // Lists that are not accepted: 12 before anything else.
-fn lists_refused(machine: Machine, times: Times) {
+fn lists_refused(stdout: Stdout, machine: Machine, times: Times) {
     let twice = [PAIR, 0x16_15_3042];
-    step(&twice, times, machine, event(1_21_0000000000000));
+    step(stdout, &twice, times, machine, event(1_21_0000000000000));
     let itself = [0x15_15_3042];
-    step(&itself, times, machine, event(7_21_0000000000000));
+    step(stdout, &itself, times, machine, event(7_21_0000000000000));
     let surrogate = [0x15_16_D800];
-    ask(&surrogate, times, machine, Stamp(0));
+    ask(stdout, &surrogate, times, machine, Stamp(0));
 }
 
-fn step_with_pair(times: Times, machine: Machine, row: u64) -> Machine {
+fn step_with_pair(stdout: Stdout, times: Times, machine: Machine, row: u64) -> Machine {
     let list = [PAIR];
-    step(&list, times, machine, event(row))
+    step(stdout, &list, times, machine, event(row))
 }
 
 // T_s and N out of range, and a list that the waiting letters are no pair of.
-fn times_refused(machine: Machine, times: Times) {
-    step_with_pair(Times { ts: 49, n: 50 }, machine, 1_21_0000000000000);
-    step_with_pair(Times { ts: 60, n: 100 }, machine, 1_21_0000000000000);
-    let first = step_with_pair(times, machine, 1_21_0000000000000);
-    let both = step_with_pair(times, first, 1_22_0000000000040);
-    step(&[], NO_TIMES, both, event(6_00_0000000000050));
+fn times_refused(stdout: Stdout, machine: Machine, times: Times) {
+    step_with_pair(stdout, Times { ts: 49, n: 50 }, machine, 1_21_0000000000000);
+    step_with_pair(
+        stdout,
+        Times { ts: 60, n: 100 },
+        machine,
+        1_21_0000000000000,
+    );
+    let first = step_with_pair(stdout, times, machine, 1_21_0000000000000);
+    let both = step_with_pair(stdout, times, first, 1_22_0000000000040);
+    step(stdout, &[], NO_TIMES, both, event(6_00_0000000000050));
 }
 
-fn lent_refused(machine: Machine) {
+fn lent_refused(stdout: Stdout, machine: Machine) {
     let times = Times { ts: 60, n: 50 };
-    lists_refused(machine, times);
-    times_refused(machine, times);
+    lists_refused(stdout, machine, times);
+    times_refused(stdout, machine, times);
 }
 
 // One event at a keyboard of a row, with what it gave back on a line; the row after it.
-fn step_at(row: [Machine; 16], board: u64, event: Event) -> [Machine; 16] {
+fn step_at(stdout: Stdout, row: [Machine; 16], board: u64, event: Event) -> [Machine; 16] {
     let among = row_by_value::step_among(row, &[], NO_TIMES, board as usize, event);
     let told = among.told;
     let items = told.items;
     let sent = told.sendings;
-    say_with(b"  keyboard #,", [board, 0, 0, 0]);
-    say_given(event, told.number, items, sent);
-    say(b"\n");
+    say_with(stdout, b"  keyboard #,", [board, 0, 0, 0]);
+    say_given(stdout, event, told.number, items, sent);
+    say(stdout, b"\n");
     among.row
 }
 
@@ -452,23 +463,24 @@ const AT_KEYBOARDS: [u64; 9] = [
     1_6_00_0000000000105,
 ];
 
-fn play_at(machine: Machine, table: &[u64]) {
+fn play_at(stdout: Stdout, machine: Machine, table: &[u64]) {
     let mut row = [machine; 16];
     let mut i = 0;
     while i < table.len() {
         let line = table[i];
-        let after = step_at(row, line / FRONT_PLACE, event(line));
+        let after = step_at(stdout, row, line / FRONT_PLACE, event(line));
         row = after;
         i += 1;
     }
 }
 
-fn main() {
+fn main(rt: HostRuntime) {
     say(
+        rt.stdout(),
         b"Kinds: 1 character down, 2 up, 3 thumb down, 4 up, 5 function, 6 tick. Thumbs: 0 left, 1 right.\n",
     );
     let settings = settings(100_050_050_0);
-    two_letters(no_pairs(stand_in(settings)));
-    lent_refused(open(settings));
-    play_at(open(settings), &AT_KEYBOARDS);
+    two_letters(rt.stdout(), no_pairs(rt.stdout(), stand_in(settings)));
+    lent_refused(rt.stdout(), open(rt.stdout(), settings));
+    play_at(rt.stdout(), open(rt.stdout(), settings), &AT_KEYBOARDS);
 }
