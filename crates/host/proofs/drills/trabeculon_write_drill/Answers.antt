@@ -1,0 +1,5 @@
+use borrow.Author.Rules.{rules}
+use Rattle.host.proofs.drills.trabeculon_write_drill.Goals as goal
+
+pub returns : goal.returns
+returns c = c.write-written.ensures

@@ -1,0 +1,9 @@
+-- `host::in_pieces::trabeculon_reader_end` meets its contract.
+use borrow.Author.Rules.{rules}
+use Rattle.host.proofs.InPieces.{end_given}
+use Rattle.host.proofs.in_pieces.trabeculon_reader_end.Goals as goal
+
+pub returns : goal.returns
+returns c = let given = c.args in
+    end_given given.reader given.list.now _ _ c.handed_back.ensures.reader_value c.handed_back.ensures.answer_value
+    c.end_numbers.ensures

@@ -1,0 +1,10 @@
+-- `host::in_pieces::trabeculon_reader_piece` meets its contract.
+use borrow.Author.Rules.{rules}
+use Rattle.host.proofs.InPieces.{piece_given}
+use Rattle.host.proofs.in_pieces.trabeculon_reader_piece.Goals as goal
+
+pub returns : goal.returns
+returns c =
+    piece_given c.args.reader c.args.list.now _ _ c.handed_back.ensures.reader_value c.handed_back.ensures.answer_value
+    c.args.piece.now _ _ _
+    c.feed_numbers.ensures

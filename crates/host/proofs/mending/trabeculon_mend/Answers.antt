@@ -1,0 +1,6 @@
+-- `host::mending::trabeculon_mend` meets its contract.
+use borrow.Author.Rules.{rules}
+use Rattle.host.proofs.mending.trabeculon_mend.Goals as goal
+
+pub returns : goal.returns
+returns c = rw c.answer.ensures c.mend.ensures

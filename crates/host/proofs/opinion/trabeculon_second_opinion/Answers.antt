@@ -1,0 +1,6 @@
+-- `host::opinion::trabeculon_second_opinion` meets its contract.
+use borrow.Author.Rules.{rules}
+use Rattle.host.proofs.opinion.trabeculon_second_opinion.Goals as goal
+
+pub returns : goal.returns
+returns c = rw c.numbers.ensures c.opine.ensures

@@ -1,0 +1,6 @@
+-- `host::trabeculon_read_log` meets its contract.
+use borrow.Author.Rules.{rules}
+use Rattle.host.proofs.trabeculon_read_log.Goals as goal
+
+pub returns : goal.returns
+returns c = rw c.numbers.ensures c.read_packed.ensures
