@@ -1,5 +1,4 @@
 -- `notator::notate` meets its contract.
-use borrow.Author.Rules.{rules}
 use Rattle.notator.proofs.Answers.{too_long, no_room}
 use Rattle.notator.proofs.notate.Goals as goal
 

@@ -1,6 +1,5 @@
 -- `notator::numbers::letter` meets its contract.
 use borrow.Author.Tests.{lt-ltb, le-ltb}
-use borrow.Author.Rules.{rules}
 use Rattle.notator.proofs.numbers.letter.Goals as goal
 
 pub returns-then-digit-lt10 : goal.returns-then-digit-lt10
