@@ -1,16 +1,16 @@
 -- The answers of `notate`.
-use Prim.Native.Nat.{ℕ, ◌+◌, ◌≤◌, ◌<◌}
+use Prim.Native.Nat.{ℕ, ◌≤◌, ◌<◌}
 use native.Mathlib.Nat.{zero-add}
 use native.Mathlib.Omega.{arith}
 use borrow.Author.Tests.{le-leb, lt-leb}
 use mathlib.Core.Bool.{true, false}
 use mathlib.Core.List.{List, ◌++◌}
-use mathlib.Core.Path.{◌≡◌, refl, sym, ap, ◌∙◌}
+use mathlib.Core.Path.{◌≡◌, ap, ◌∙◌}
 use lib.Dec.{leb}
 use lib.ListN.{length, take}
 use Rattle.filled.specs.Filled.{Stored}
 use Rattle.keylog.specs.LogRecords.{records_of}
-use Rattle.keylog.specs.Reader.{read, answer_of, number_of}
+use Rattle.keylog.specs.Reader.{read}
 use Rattle.keylog.specs.Runs.{as_it_is, Reads}
 use Rattle.keylog.specs.declared.LogAnswer.{LogAnswer}
 use Rattle.keylog.proofs.Room.{enough_room}
@@ -18,7 +18,7 @@ use Rattle.notation.specs.RoundTrip.{Bytes}
 use Rattle.notation.specs.Notation.{texts, refusal_text, notated}
 use Rattle.notator.specs.Adds.{Adds}
 use Rattle.notator.specs.Words.{word_room}
-use Rattle.notator.specs.Notates.{longest_log, room_for, number_told, offset_told, Notates, Within}
+use Rattle.notator.specs.Notates.{longest_log, room_for, number_told, offset_told, Notates}
 use Rattle.notator.specs.declared.Notated.TheVariants.{Text, NoRoom, Unread}
 use Rattle.notator.proofs.Adding.{◌and_then◌}
 use Rattle.notator.proofs.OneReading.{SameTold, one_reading}

@@ -4,7 +4,6 @@ use native.Mathlib.Omega.{arith}
 use Rattle.decode.proofs.Passing.{next_inside, empty, same_length, all_filled, never_damaged, next_fits, fills_on}
 use Rattle.decode.proofs.fill.Goals as goal
 
--- the next position is not past the end
 pub loop-at-init : goal.loop-at-init
 loop-at-init c = empty _ _
 
@@ -17,6 +16,7 @@ returns-in-Damaged c = search (never_damaged, rules)
 pub bounds-out-n : goal.bounds-out-n
 bounds-out-n c = search (next_fits, rules)
 
+-- the next position is not past the end
 pub overflow_add-at : goal.overflow_add-at
 overflow_add-at c =
     let inv = c.loop-at.invariant.passed in

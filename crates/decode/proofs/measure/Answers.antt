@@ -4,13 +4,13 @@ use native.Mathlib.Omega.{arith}
 use Rattle.decode.proofs.Passing.{begun, all_passed, stops, next_inside, goes_on, damage_found, has_room, no_room}
 use Rattle.decode.proofs.measure.Goals as goal
 
--- the next position is not past the end
 pub loop-at-init : goal.loop-at-init
 loop-at-init c = begun _
 
 pub returns-in-Damaged : goal.returns-in-Damaged
 returns-in-Damaged c = search (damage_found, stops, rules)
 
+-- the next position is not past the end
 pub overflow_add-at : goal.overflow_add-at
 overflow_add-at c =
     let inv = c.loop-at.invariant in

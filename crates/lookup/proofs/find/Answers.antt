@@ -1,11 +1,11 @@
 -- `lookup::find` meets its contract: the two full-width signs are computed, what lies outside the table is on no face, and an entry
+-- of the table says what it was made of.
 use borrow.Author.Rules.{rules}
 use Rattle.rules.specs.Layout.{table}
 use Rattle.lookup.specs.Places.{place_of}
 use Rattle.lookup.proofs.Table.{in_table, below_table, above_table}
 use Rattle.lookup.proofs.find.Goals as goal
 
--- of the table says what it was made of.
 pub returns-then-c-eq-STOP : goal.returns-then-c-eq-STOP
 unfolding place_of table
 returns-then-c-eq-STOP c = rw c.if-c-eq-STOP.true

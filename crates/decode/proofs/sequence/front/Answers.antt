@@ -4,14 +4,11 @@ use Rattle.decode.specs.Sequences.{front}
 use Rattle.decode.proofs.sequence.front.Goals as goal
 
 -- one byte
--- two
--- three
--- four
--- no form
 pub returns-then-a-eq0 : goal.returns-then-a-eq0
 unfolding front
 returns-then-a-eq0 c = rw (← c.byte-a.ensures, eq-eqb _ _ c.if-a-eq0.true)
 
+-- two
 pub returns-then-a-eq6 : goal.returns-then-a-eq6
 unfolding front
 returns-then-a-eq6 c =
@@ -23,6 +20,7 @@ returns-then-a-eq6 c =
       ← c.two.ensures,
     )
 
+-- three
 pub returns-then-a-eq14 : goal.returns-then-a-eq14
 unfolding front
 returns-then-a-eq14 c =
@@ -36,6 +34,7 @@ returns-then-a-eq14 c =
       ← c.three.ensures,
     )
 
+-- four
 pub returns-then-a-eq30 : goal.returns-then-a-eq30
 unfolding front
 returns-then-a-eq30 c =
@@ -51,6 +50,7 @@ returns-then-a-eq30 c =
       ← c.four.ensures,
     )
 
+-- no form
 pub returns : goal.returns
 unfolding front
 returns c =
