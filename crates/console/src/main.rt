@@ -13,8 +13,8 @@ ghost use Rattle.console_text.specs.Shows.{longest_log, text_room};
 ghost use Rattle.console.specs.Texts.{HasText};
 
 use console_text::{LONGEST_LOG, Shown, TEXT_ROOM};
-use input::{Asked, Input};
-use libc::{STDERR_FILENO, STDOUT_FILENO};
+use input::{Asked, Input, Source};
+use std::io::{Stderr, Stdout};
 
 // Buffers as they are given: a parameter's length is known by its type, that of a new array would take too long to compute.
 fn with_log(log: [u8; LONGEST_LOG]) -> [u8; LONGEST_LOG]
@@ -29,58 +29,56 @@ fn with_text(out: [u8; TEXT_ROOM]) -> [u8; TEXT_ROOM]
     out
 }
 
-fn print(text: &[u8]) {
-    if io::write_all(STDOUT_FILENO, text) {
-        return;
+fn print(stdout: Stdout, stderr: Stderr, text: &[u8]) {
+    match stdout.write_all(text) {
+        Ok(()) => {}
+        Err(error) => input::fail(stderr, b"console: standard output", error),
     }
-    os::fail(b"console: standard output");
 }
 
 // Prints the text of a log.
-fn print_text(shown: Shown, out: &[u8])
+fn print_text(stdout: Stdout, stderr: Stderr, shown: Shown, out: &[u8])
     requires { HasText (length out.now) shown }
 {
     match shown {
         // There is room: `with_text`.
         Shown::Unread => {}
-        Shown::Text(bytes) => print(&out[..bytes]),
+        Shown::Text(bytes) => print(stdout, stderr, &out[..bytes]),
     }
 }
 
-fn print_log(log: &[u8], out: &mut [u8])
+fn print_log(stdout: Stdout, stderr: Stderr, log: &[u8], out: &mut [u8])
     requires log_len_bound { length log.now ≤ longest_log }
     requires text_room_in_bounds { text_room ≤ length out.old }
 {
     let shown = console_text::show(log, out);
-    print_text(shown, out);
+    print_text(stdout, stderr, shown, out);
 }
 
-fn run(fd: i32, label: &[u8]) {
+fn run(stdout: Stdout, stderr: Stderr, from: &mut Source, label: &[u8]) {
     let mut log = with_log([0; LONGEST_LOG]);
     let mut out = with_text([0; TEXT_ROOM]);
-    match input::read(fd, &mut log) {
-        Input::Whole(n) => print_log(&log[..n], &mut out),
-        Input::Longer => print(b"refused 9 at 1048576\n"),
-        Input::Failed => os::fail(label),
+    match input::read(from, &mut log) {
+        Input::Whole(n) => print_log(stdout, stderr, &log[..n], &mut out),
+        Input::Longer => print(stdout, stderr, b"refused 9 at 1048576\n"),
+        Input::Failed(error) => input::fail(stderr, label, error),
     }
 }
 
 // Runs on the file that argument i names, or for 0 on standard input.
-fn run_on(i: usize) {
+fn run_on(rt: HostRuntime, i: usize) {
     let mut buf = io::buffer();
-    let n = input::label(b"console: ", i, &mut buf);
-    let fd = input::open(i);
-    if fd < 0 {
-        os::fail(&buf[..n]);
-        return;
+    let n = input::label(&rt, b"console: ", i, &mut buf);
+    match input::open(rt, i) {
+        Ok(mut from) => run(rt.stdout(), rt.stderr(), &mut from, &buf[..n]),
+        Err(error) => input::fail(rt.stderr(), &buf[..n], error),
     }
-    run(fd, &buf[..n]);
 }
 
-fn main() {
-    match input::read_arguments() {
-        Asked::Work(i) => run_on(i),
-        Asked::Help => messages::print_usage(STDOUT_FILENO),
-        Asked::Unclear => messages::print_usage(STDERR_FILENO),
+fn main(rt: HostRuntime) {
+    match input::read_arguments(&rt) {
+        Asked::Work(i) => run_on(rt, i),
+        Asked::Help => messages::print_usage(&rt.stdout()),
+        Asked::Unclear => messages::print_usage(&rt.stderr()),
     }
 }

@@ -1,6 +1,7 @@
 // What the program's arguments ask for.
 use decimals::Number;
 use rules::Settings;
+use std::rt::Env;
 
 #[derive(Clone, Copy)]
 pub enum Asked {
@@ -17,14 +18,14 @@ enum Byte {
 }
 
 // The number that an argument is. One that is missing, empty or longer than a path is none.
-fn argument(i: usize) -> Number {
+fn argument<E: Env>(rt: &E, i: usize) -> Number {
     let mut buf = io::buffer();
-    let n = os::arg(i, &mut buf);
+    let n = input::argument(rt, i, &mut buf);
     decimals::parse(&buf[..n])
 }
 
-fn byte_argument(i: usize) -> Byte {
-    match argument(i) {
+fn byte_argument<E: Env>(rt: &E, i: usize) -> Byte {
+    match argument(rt, i) {
         Number::Value(n) => {
             if n < 256 {
                 return Byte::Value(n as u8);
@@ -36,17 +37,17 @@ fn byte_argument(i: usize) -> Byte {
 }
 
 // T J L SOLO, and what is drilled.
-fn with_settings(i: usize) -> Asked {
-    let Number::Value(t) = argument(1) else {
+fn with_settings<E: Env>(rt: &E, i: usize) -> Asked {
+    let Number::Value(t) = argument(rt, 1) else {
         return Asked::Unclear;
     };
-    let Byte::Value(j) = byte_argument(2) else {
+    let Byte::Value(j) = byte_argument(rt, 2) else {
         return Asked::Unclear;
     };
-    let Byte::Value(l) = byte_argument(3) else {
+    let Byte::Value(l) = byte_argument(rt, 3) else {
         return Asked::Unclear;
     };
-    let Byte::Value(solo) = byte_argument(4) else {
+    let Byte::Value(solo) = byte_argument(rt, 4) else {
         return Asked::Unclear;
     };
     let settings = Settings {
@@ -69,8 +70,8 @@ fn usual() -> Settings {
 }
 
 // A file's name alone, or `--help`.
-fn with_name() -> Asked {
-    match input::read_argument(1) {
+fn with_name<E: Env>(rt: &E) -> Asked {
+    match input::read_argument(rt, 1) {
         input::Asked::Work(i) => Asked::Drill(usual(), i),
         input::Asked::Help => Asked::Help,
         input::Asked::Unclear => Asked::Unclear,
@@ -78,21 +79,21 @@ fn with_name() -> Asked {
 }
 
 // T J L SOLO and a file's name.
-fn with_both() -> Asked {
-    match input::read_argument(5) {
-        input::Asked::Work(i) => with_settings(i),
+fn with_both<E: Env>(rt: &E) -> Asked {
+    match input::read_argument(rt, 5) {
+        input::Asked::Work(i) => with_settings(rt, i),
         input::Asked::Help => Asked::Unclear,
         input::Asked::Unclear => Asked::Unclear,
     }
 }
 
-pub fn read() -> Asked {
+pub fn read<E: Env>(rt: &E) -> Asked {
     // The program's own name is one of them.
-    match os::arg_count() {
+    match input::count_arguments(rt, 7) {
         0 | 1 => Asked::Drill(usual(), 0),
-        2 => with_name(),
-        5 => with_settings(0),
-        6 => with_both(),
+        2 => with_name(rt),
+        5 => with_settings(rt, 0),
+        6 => with_both(rt),
         _ => Asked::Unclear,
     }
 }

@@ -14,10 +14,10 @@ ghost use Rattle.drill.specs.Texts.{longest_text, Within};
 ghost use Rattle.drill.specs.Room.{log_room};
 
 use arguments::Asked;
-use input::Input;
-use libc::{STDERR_FILENO, STDOUT_FILENO};
+use input::{Input, Source};
 use lines::{Answer, LONGEST_TEXT};
 use rules::Settings;
+use std::io::{Stderr, Stdout};
 
 // An accepted character has three bytes of UTF-8, so a text of 65,536 bytes has at most 21,845 of them. The strokes of one take at
 // most 65 bytes, and the settings take 8.
@@ -45,69 +45,66 @@ fn log_buffer() -> [u8; LOG_ROOM]
 }
 
 // Says that a text that begins with these bytes and has more is too long.
-fn print_longer(start: &[u8])
+fn print_longer(stderr: Stderr, start: &[u8])
     requires { longest_text ≤ length start.now }
 {
-    io::write_all(
-        STDERR_FILENO,
-        b"drill: the text is longer than 65536 bytes\n",
-    );
+    let _ = stderr.println("drill: the text is longer than 65536 bytes");
 }
 
-fn print_log(log: &[u8]) {
-    if io::write_all(STDOUT_FILENO, log) {
-        return;
+fn print_log(stdout: Stdout, stderr: Stderr, log: &[u8]) {
+    match stdout.write_all(log) {
+        Ok(()) => {}
+        Err(error) => input::fail(stderr, b"drill: standard output", error),
     }
-    os::fail(b"drill: standard output");
 }
 
 // Prints what was answered of a text.
-fn show(answer: Answer, text: &[u8], log: &[u8])
+fn show(stdout: Stdout, stderr: Stderr, answer: Answer, text: &[u8], log: &[u8])
     requires { Within (length log.now) answer }
 {
     match answer {
-        Answer::Log(n) => print_log(&log[..n]),
-        Answer::Refused(number, position) => messages::print_refused(number, position, text),
-        Answer::Damaged(position) => messages::print_damaged(position),
+        Answer::Log(n) => print_log(stdout, stderr, &log[..n]),
+        Answer::Refused(number, position) => messages::print_refused(
+            stderr, number, position, text,
+        ),
+        Answer::Damaged(position) => messages::print_damaged(stderr, position),
     }
 }
 
 // Prints what a text gives, by way of a run with room for its log.
-fn print_drill(settings: Settings, text: &[u8], log: &mut [u8])
+fn print_drill(stdout: Stdout, stderr: Stderr, settings: Settings, text: &[u8], log: &mut [u8])
     requires text_len_bound { length text.now ≤ longest_text }
     requires log_room_in_bounds { log_room ≤ length log.old }
 {
     let answer = lines::write(settings, text, log);
-    show(answer, text, log);
+    show(stdout, stderr, answer, text, log);
 }
 
 // Reads a text and prints what it gives.
-fn run(settings: Settings, fd: i32, label: &[u8]) {
+fn run(stdout: Stdout, stderr: Stderr, settings: Settings, from: &mut Source, label: &[u8]) {
     let mut text = text_buffer();
     let mut log = log_buffer();
-    match input::read(fd, &mut text) {
-        Input::Whole(n) => print_drill(settings, &text[..n], &mut log),
-        Input::Longer => print_longer(&text),
-        Input::Failed => os::fail(label),
+    match input::read(from, &mut text) {
+        Input::Whole(n) => print_drill(stdout, stderr, settings, &text[..n], &mut log),
+        Input::Longer => print_longer(stderr, &text),
+        Input::Failed(error) => input::fail(stderr, label, error),
     }
 }
 
 // Runs on the file that argument i names, or for 0 on standard input.
-fn run_on(settings: Settings, i: usize) {
+fn run_on(rt: HostRuntime, settings: Settings, i: usize) {
     let mut buf = io::buffer();
-    let n = input::label(b"drill: ", i, &mut buf);
-    let fd = input::open(i);
-    if fd < 0 {
-        os::fail(&buf[..n]);
-        return;
+    let n = input::label(&rt, b"drill: ", i, &mut buf);
+    match input::open(rt, i) {
+        Ok(mut from) => run(rt.stdout(), rt.stderr(), settings, &mut from, &buf[..n]),
+        Err(error) => input::fail(rt.stderr(), &buf[..n], error),
     }
-    run(settings, fd, &buf[..n]);
 }
 
-fn main() {
-    match arguments::read() {
-        Asked::Drill(settings, i) => run_on(settings, i),
-        Asked::Help => messages::print_usage(STDOUT_FILENO),
-        Asked::Unclear => messages::print_usage(STDERR_FILENO),
+fn main(rt: HostRuntime) {
+    match arguments::read(&rt) {
+        Asked::Drill(settings, i) => run_on(rt, settings, i),
+        Asked::Help => messages::print_usage(&rt.stdout()),
+        Asked::Unclear => messages::print_usage(&rt.stderr()),
     }
 }

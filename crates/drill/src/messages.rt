@@ -1,5 +1,5 @@
 // What the program says on standard error, and how to use it.
-use libc::STDERR_FILENO;
+use std::io::Stderr;
 
 // What a character on no face is.
 #[derive(Clone, Copy)]
@@ -11,36 +11,30 @@ enum Stranger {
     Other,
 }
 
-pub fn print_usage(fd: i32) {
-    io::write_all(fd, b"usage: drill [T J L SOLO] [LINE] > LOG\n");
-    io::write_all(
-        fd,
-        b"Writes the log that plays a line of UTF-8 text. T is 50 to 1000 milliseconds, J and L are 1\n",
+pub fn print_usage(to: &impl Print) {
+    let _ = to.println("usage: drill [T J L SOLO] [LINE] > LOG");
+    let _ = to.println(
+        "Writes the log that plays a line of UTF-8 text. T is 50 to 1000 milliseconds, J and L are 1",
     );
-    io::write_all(
-        fd,
-        b"to 99 percent, SOLO is 0 or 1; without them they are 100 50 50 0. The line has at most 65536\n",
+    let _ = to.println(
+        "to 99 percent, SOLO is 0 or 1; without them they are 100 50 50 0. The line has at most 65536",
     );
-    io::write_all(
-        fd,
-        b"bytes with its line end, that is at most 21845 characters. Where a line has no log, nothing is\n",
+    let _ = to.println(
+        "bytes with its line end, that is at most 21845 characters. Where a line has no log, nothing is",
     );
-    io::write_all(
-        fd,
-        b"written, and standard error says why. LINE is a file with the line; without it, standard input is read.\n",
+    let _ = to.println(
+        "written, and standard error says why. LINE is a file with the line; without it, standard input is read.",
     );
 }
 
 // Where in the line, and a line end.
-fn print_position(position: usize) {
-    io::write_all(STDERR_FILENO, b" at ");
-    io::print_decimal(STDERR_FILENO, position as u64);
-    io::write_all(STDERR_FILENO, b"\n");
+fn print_position(stderr: Stderr, position: usize) {
+    let _ = println!(stderr; " at {position}");
 }
 
-pub fn print_damaged(position: usize) {
-    io::write_all(STDERR_FILENO, b"not UTF-8");
-    print_position(position);
+pub fn print_damaged(stderr: Stderr, position: usize) {
+    let _ = stderr.print("not UTF-8");
+    print_position(stderr, position);
 }
 
 // Whether the refused character is a carriage return at the line's end. Each one before it is on a face and has three bytes.
@@ -82,47 +76,36 @@ fn name_stranger(line: &[u8], position: usize) -> Stranger {
 }
 
 // Which character is on no face, and where that is known, how to mend the line.
-fn print_stranger(line: &[u8], position: usize) {
-    io::write_all(STDERR_FILENO, b"drill: character ");
-    io::print_decimal(STDERR_FILENO, position as u64);
-    match name_stranger(line, position) {
-        Stranger::CarriageReturn => io::write_all(
-            STDERR_FILENO,
-            b" (from 0) is a carriage return: a line ends in a line feed alone, not in CRLF\n",
-        ),
-        Stranger::ByteOrderMark => io::write_all(
-            STDERR_FILENO,
-            b" (from 0) is a byte order mark: a line has none\n",
-        ),
-        Stranger::Other => io::write_all(STDERR_FILENO, b" (from 0) is on no face of the layout\n"),
+fn print_stranger(stderr: Stderr, line: &[u8], position: usize) {
+    let _ = print!(stderr; "drill: character {position}");
+    let what = match name_stranger(line, position) {
+        Stranger::CarriageReturn =>
+            " (from 0) is a carriage return: a line ends in a line feed alone, not in CRLF",
+        Stranger::ByteOrderMark => " (from 0) is a byte order mark: a line has none",
+        Stranger::Other => " (from 0) is on no face of the layout",
     };
+    let _ = stderr.println(what);
 }
 
 // What a refusal of a line means.
-fn explain(number: u32, position: usize, line: &[u8]) {
+fn explain(stderr: Stderr, number: u32, position: usize, line: &[u8]) {
     if number == 10 {
-        print_stranger(line, position);
+        print_stranger(stderr, line, position);
         return;
     }
-    match number {
-        1 => io::write_all(
-            STDERR_FILENO,
-            b"drill: settings out of range: T is 50 to 1000, J and L are 1 to 99, SOLO is 0 or 1\n",
-        ),
-        4 => io::write_all(
-            STDERR_FILENO,
-            b"drill: the line is too long: a stamp is above the largest, 1000000000000\n",
-        ),
-        8 => io::write_all(STDERR_FILENO, b"drill: too little room for the log\n"),
-        _ => io::write_all(STDERR_FILENO, b"drill: refused\n"),
+    let meaning = match number {
+        1 => "drill: settings out of range: T is 50 to 1000, J and L are 1 to 99, SOLO is 0 or 1",
+        4 => "drill: the line is too long: a stamp is above the largest, 1000000000000",
+        8 => "drill: too little room for the log",
+        _ => "drill: refused",
     };
+    let _ = stderr.println(meaning);
 }
 
 // A refusal: its number and position, and a line in words.
-pub fn print_refused(number: u32, position: usize, text: &[u8]) {
-    io::write_all(STDERR_FILENO, b"refused ");
-    io::print_decimal(STDERR_FILENO, number as u64);
-    print_position(position);
+pub fn print_refused(stderr: Stderr, number: u32, position: usize, text: &[u8]) {
+    let _ = print!(stderr; "refused {number}");
+    print_position(stderr, position);
     let n = crate::lines::size(text);
-    explain(number, position, &text[..n]);
+    explain(stderr, number, position, &text[..n]);
 }

@@ -10,8 +10,8 @@ mod messages;
 ghost use Rattle.std.specs.Prelude.{◌≡◌, length};
 ghost use Rattle.mend.specs.Buffers.{longest};
 
-use input::{Asked, Input};
-use libc::{STDERR_FILENO, STDOUT_FILENO};
+use input::{Asked, Input, Source};
+use std::io::{Stderr, Stdout};
 
 // The longest log that is mended.
 const LONGEST: usize = 1_048_576;
@@ -27,54 +27,54 @@ fn with_log(log: [u8; LONGEST]) -> [u8; LONGEST]
 }
 
 // Writes a mended log; whether it could be written.
-fn print(log: &[u8]) -> bool {
-    if io::write_all(STDOUT_FILENO, log) {
-        return true;
+fn print(stdout: Stdout, stderr: Stderr, log: &[u8]) -> bool {
+    match stdout.write_all(log) {
+        Ok(()) => true,
+        Err(error) => {
+            input::fail(stderr, b"mend: standard output", error);
+            false
+        }
     }
-    os::fail(b"mend: standard output");
-    false
 }
 
 // There is room for all that is copied: it is no more than the log.
-fn mend_log(log: &[u8], out: &mut [u8], list: &mut [u64]) {
+fn mend_log(stdout: Stdout, stderr: Stderr, log: &[u8], out: &mut [u8], list: &mut [u64]) {
     let mended = mender::mend(log, out, list);
     if mended.number == 0 {
         let n = mended.bytes;
-        if print(&out[..n]) {
-            messages::print_dropped(list, mended.dropped);
+        if print(stdout, stderr, &out[..n]) {
+            messages::print_dropped(stderr, list, mended.dropped);
         }
         return;
     }
-    messages::print_refused(mended.number);
+    messages::print_refused(stderr, mended.number);
 }
 
-fn run(fd: i32, label: &[u8]) {
+fn run(stdout: Stdout, stderr: Stderr, from: &mut Source, label: &[u8]) {
     let mut log = with_log([0; LONGEST]);
     let mut out = with_log([0; LONGEST]);
     let mut list = [0u64; LIST_ROOM];
-    match input::read(fd, &mut log) {
-        Input::Whole(n) => mend_log(&log[..n], &mut out, &mut list),
-        Input::Longer => messages::print_too_long(),
-        Input::Failed => os::fail(label),
+    match input::read(from, &mut log) {
+        Input::Whole(n) => mend_log(stdout, stderr, &log[..n], &mut out, &mut list),
+        Input::Longer => messages::print_too_long(stderr),
+        Input::Failed(error) => input::fail(stderr, label, error),
     }
 }
 
 // Runs on the file that argument i names, or for 0 on standard input.
-fn run_on(i: usize) {
+fn run_on(rt: HostRuntime, i: usize) {
     let mut buf = io::buffer();
-    let n = input::label(b"mend: ", i, &mut buf);
-    let fd = input::open(i);
-    if fd < 0 {
-        os::fail(&buf[..n]);
-        return;
+    let n = input::label(&rt, b"mend: ", i, &mut buf);
+    match input::open(rt, i) {
+        Ok(mut from) => run(rt.stdout(), rt.stderr(), &mut from, &buf[..n]),
+        Err(error) => input::fail(rt.stderr(), &buf[..n], error),
     }
-    run(fd, &buf[..n]);
 }
 
-fn main() {
-    match input::read_arguments() {
-        Asked::Work(i) => run_on(i),
-        Asked::Help => messages::print_usage(STDOUT_FILENO),
-        Asked::Unclear => messages::print_usage(STDERR_FILENO),
+fn main(rt: HostRuntime) {
+    match input::read_arguments(&rt) {
+        Asked::Work(i) => run_on(rt, i),
+        Asked::Help => messages::print_usage(&rt.stdout()),
+        Asked::Unclear => messages::print_usage(&rt.stderr()),
     }
 }

@@ -12,9 +12,9 @@ ghost use Rattle.std.specs.Prelude.{◌≤◌, ◌≡◌, length};
 ghost use Rattle.notator.specs.Notates.{longest_log};
 ghost use Rattle.notate.specs.Texts.{text_room, HasText};
 
-use input::{Asked, Input};
-use libc::{STDERR_FILENO, STDOUT_FILENO};
+use input::{Asked, Input, Source};
 use notator::{LONGEST_LOG, Notated};
+use std::io::{Stderr, Stdout};
 
 // Room for the text of every log that is read.
 const TEXT_ROOM: usize = 4194432;
@@ -33,16 +33,15 @@ fn with_text(out: [u8; TEXT_ROOM]) -> [u8; TEXT_ROOM]
 }
 
 // Prints a text, and what a refusal means.
-fn print(text: &[u8], number: u32, offset: usize) {
-    if io::write_all(STDOUT_FILENO, text) {
-        messages::explain(number, offset);
-        return;
+fn print(stdout: Stdout, stderr: Stderr, text: &[u8], number: u32, offset: usize) {
+    match stdout.write_all(text) {
+        Ok(()) => messages::explain(stderr, number, offset),
+        Err(error) => input::fail(stderr, b"notate: standard output", error),
     }
-    os::fail(b"notate: standard output");
 }
 
 // Prints the text of a log.
-fn print_text(notated: Notated, out: &[u8])
+fn print_text(stdout: Stdout, stderr: Stderr, notated: Notated, out: &[u8])
     requires { HasText (length out.now) notated }
 {
     match notated {
@@ -50,7 +49,7 @@ fn print_text(notated: Notated, out: &[u8])
             bytes,
             number,
             offset,
-        } => print(&out[..bytes], number, offset),
+        } => print(stdout, stderr, &out[..bytes], number, offset),
         // There is room: `with_text`.
         Notated::NoRoom => {}
         // No more was read: `with_log`.
@@ -58,40 +57,38 @@ fn print_text(notated: Notated, out: &[u8])
     }
 }
 
-fn print_log(log: &[u8], out: &mut [u8])
+fn print_log(stdout: Stdout, stderr: Stderr, log: &[u8], out: &mut [u8])
     requires log_len_bound { length log.now ≤ longest_log }
     requires text_room_in_bounds { text_room ≤ length out.old }
 {
     let notated = notator::notate(log, out);
-    print_text(notated, out);
+    print_text(stdout, stderr, notated, out);
 }
 
-fn run(fd: i32, label: &[u8]) {
+fn run(stdout: Stdout, stderr: Stderr, from: &mut Source, label: &[u8]) {
     let mut log = with_log([0; LONGEST_LOG]);
     let mut out = with_text([0; TEXT_ROOM]);
-    match input::read(fd, &mut log) {
-        Input::Whole(n) => print_log(&log[..n], &mut out),
-        Input::Longer => messages::print_longer(),
-        Input::Failed => os::fail(label),
+    match input::read(from, &mut log) {
+        Input::Whole(n) => print_log(stdout, stderr, &log[..n], &mut out),
+        Input::Longer => messages::print_longer(stderr),
+        Input::Failed(error) => input::fail(stderr, label, error),
     }
 }
 
 // Runs on the file that argument i names, or for 0 on standard input.
-fn run_on(i: usize) {
+fn run_on(rt: HostRuntime, i: usize) {
     let mut buf = io::buffer();
-    let n = input::label(b"notate: ", i, &mut buf);
-    let fd = input::open(i);
-    if fd < 0 {
-        os::fail(&buf[..n]);
-        return;
+    let n = input::label(&rt, b"notate: ", i, &mut buf);
+    match input::open(rt, i) {
+        Ok(mut from) => run(rt.stdout(), rt.stderr(), &mut from, &buf[..n]),
+        Err(error) => input::fail(rt.stderr(), &buf[..n], error),
     }
-    run(fd, &buf[..n]);
 }
 
-fn main() {
-    match input::read_arguments() {
-        Asked::Work(i) => run_on(i),
-        Asked::Help => messages::print_usage(STDOUT_FILENO),
-        Asked::Unclear => messages::print_usage(STDERR_FILENO),
+fn main(rt: HostRuntime) {
+    match input::read_arguments(&rt) {
+        Asked::Work(i) => run_on(rt, i),
+        Asked::Help => messages::print_usage(&rt.stdout()),
+        Asked::Unclear => messages::print_usage(&rt.stderr()),
     }
 }

@@ -11,8 +11,8 @@ mod messages;
 ghost use Rattle.std.specs.Prelude.{◌≡◌, length};
 ghost use Rattle.transcribe.specs.Answers.{text_room, log_room, Within};
 
-use input::{Asked, Input};
-use libc::{STDERR_FILENO, STDOUT_FILENO};
+use input::{Asked, Input, Source};
+use std::io::{Stderr, Stdout};
 use transcriber::Transcribed;
 
 const TEXT_ROOM: usize = 4194432;
@@ -32,55 +32,53 @@ fn with_log(log: [u8; LOG_ROOM]) -> [u8; LOG_ROOM]
     log
 }
 
-fn print(log: &[u8]) {
-    if io::write_all(STDOUT_FILENO, log) {
-        return;
+fn print(stdout: Stdout, stderr: Stderr, log: &[u8]) {
+    match stdout.write_all(log) {
+        Ok(()) => {}
+        Err(error) => input::fail(stderr, b"transcribe: standard output", error),
     }
-    os::fail(b"transcribe: standard output");
 }
 
-fn show(answer: Transcribed, log: &[u8])
+fn show(stdout: Stdout, stderr: Stderr, answer: Transcribed, log: &[u8])
     requires { Within (length log.now) answer }
 {
     match answer {
-        Transcribed::Log(n) => print(&log[..n]),
-        Transcribed::Wrong(place, expected) => messages::print_wrong(place, expected),
-        Transcribed::NoRoom => messages::print_no_room(),
-        Transcribed::Unread => messages::print_longer(),
+        Transcribed::Log(n) => print(stdout, stderr, &log[..n]),
+        Transcribed::Wrong(place, expected) => messages::print_wrong(stderr, place, expected),
+        Transcribed::NoRoom => messages::print_no_room(stderr),
+        Transcribed::Unread => messages::print_longer(stderr),
     }
 }
 
-fn print_log(text: &[u8], log: &mut [u8]) {
+fn print_log(stdout: Stdout, stderr: Stderr, text: &[u8], log: &mut [u8]) {
     let answer = transcriber::transcribe(text, log);
-    show(answer, log);
+    show(stdout, stderr, answer, log);
 }
 
-fn run(fd: i32, label: &[u8]) {
+fn run(stdout: Stdout, stderr: Stderr, from: &mut Source, label: &[u8]) {
     let mut text = with_text([0; TEXT_ROOM]);
     let mut log = with_log([0; LOG_ROOM]);
-    match input::read(fd, &mut text) {
-        Input::Whole(n) => print_log(&text[..n], &mut log),
-        Input::Longer => messages::print_longer(),
-        Input::Failed => os::fail(label),
+    match input::read(from, &mut text) {
+        Input::Whole(n) => print_log(stdout, stderr, &text[..n], &mut log),
+        Input::Longer => messages::print_longer(stderr),
+        Input::Failed(error) => input::fail(stderr, label, error),
     }
 }
 
 // Runs on the file that argument i names, or for 0 on standard input.
-fn run_on(i: usize) {
+fn run_on(rt: HostRuntime, i: usize) {
     let mut buf = io::buffer();
-    let n = input::label(b"transcribe: ", i, &mut buf);
-    let fd = input::open(i);
-    if fd < 0 {
-        os::fail(&buf[..n]);
-        return;
+    let n = input::label(&rt, b"transcribe: ", i, &mut buf);
+    match input::open(rt, i) {
+        Ok(mut from) => run(rt.stdout(), rt.stderr(), &mut from, &buf[..n]),
+        Err(error) => input::fail(rt.stderr(), &buf[..n], error),
     }
-    run(fd, &buf[..n]);
 }
 
-fn main() {
-    match input::read_arguments() {
-        Asked::Work(i) => run_on(i),
-        Asked::Help => messages::print_usage(STDOUT_FILENO),
-        Asked::Unclear => messages::print_usage(STDERR_FILENO),
+fn main(rt: HostRuntime) {
+    match input::read_arguments(&rt) {
+        Asked::Work(i) => run_on(rt, i),
+        Asked::Help => messages::print_usage(&rt.stdout()),
+        Asked::Unclear => messages::print_usage(&rt.stderr()),
     }
 }
