@@ -1,7 +1,7 @@
 -- The table's rule at every key and face. Document 01's three faces side by side are one table of rows; that the code's table is
 -- that one is a test that antt computes over all of it, where `faces` is proved.
 use mathlib.Core.Path.{◌≡◌, refl, ap, sym, ◌∙◌}
-use mathlib.Core.List.{List, [], ◌∷◌, map}
+use mathlib.Core.List.{List, [], map}
 use Prim.Native.Nat.{ℕ, ◌≤◌, ◌<◌}
 use borrow.Author.Tests.{ltb-false}
 use lib.Dec.{lit<}

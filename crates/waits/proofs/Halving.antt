@@ -1,7 +1,7 @@
 -- Laws of a quotient by a divisor that is moved up by k bits and back down, one bit a turn.
 use mathlib.Core.Path.{◌≡◌, sym, ap, ◌∙◌}
 use Prim.Native.Nat.{ℕ, zero, suc, ◌+◌, ◌-◌, ◌*◌, ◌/◌, ◌%◌, ◌^◌, ◌≤◌, ◌<◌}
-use native.Mathlib.Nat.{two-pow-succ, mul-one, one-mul, mul-add, add-mul, mul-le-mul, mul-le-mul_left, mul-le-mul_right}
+use native.Mathlib.Nat.{two-pow-succ, mul-one, mul-add, add-mul, mul-le-mul, mul-le-mul_left, mul-le-mul_right}
 use native.Mathlib.Nat.{div-eq_of_lt-le, lt_of_not-le}
 use native.Mathlib.Decide.{dec_le}
 use native.Mathlib.Omega.{arith}

@@ -1,6 +1,5 @@
 -- `layout::code_point_in` meets its contract.
 use native.Mathlib.Omega.{arith}
-use borrow.Author.Rules.{rules}
 use borrow.Author.Tests.{lt-ltb, le-ltb}
 use Rattle.layout.specs.Column.{code_point_in}
 use Rattle.layout.proofs.Table.{column_below}

@@ -1,5 +1,4 @@
 -- `layout::column` meets its contract.
-use borrow.Author.Rules.{rules}
 use Rattle.layout.proofs.column.Goals as goal
 
 pub returns-in-Plain : goal.returns-in-Plain

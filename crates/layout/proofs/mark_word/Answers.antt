@@ -1,5 +1,4 @@
 -- `layout::mark_word` meets its contract.
-use borrow.Author.Rules.{rules}
 use Rattle.layout.proofs.mark_word.Goals as goal
 
 pub returns-in-Left : goal.returns-in-Left

@@ -1,5 +1,4 @@
 -- `layout::word_in` meets its contract.
-use borrow.Author.Rules.{rules}
 use Rattle.layout.proofs.word_in.Goals as goal
 
 pub returns-in-Character : goal.returns-in-Character

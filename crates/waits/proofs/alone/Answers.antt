@@ -1,5 +1,4 @@
 -- `waits::alone` meets its contract.
-use borrow.Author.Rules.{rules}
 use Rattle.waits.proofs.alone.Goals as goal
 
 pub returns : goal.returns

@@ -1,5 +1,4 @@
 -- `waits::character_first_wait_below` meets its contract.
-use borrow.Author.Rules.{rules}
 use Rattle.rules.specs.Numbers.{FJ}
 use Rattle.waits.proofs.Bounds.{lag_bound}
 use Rattle.waits.proofs.character_first_wait_below.Goals as goal

@@ -1,5 +1,4 @@
 -- `waits::character_wait_below` meets its contract.
-use borrow.Author.Rules.{rules}
 use Rattle.rules.specs.Numbers.{A}
 use Rattle.waits.proofs.character_wait_below.Goals as goal
 

@@ -1,7 +1,6 @@
 -- `waits::later` meets its contract.
 use mathlib.Core.Path.{sym}
 use native.Mathlib.Omega.{arith}
-use borrow.Author.Rules.{rules}
 use Rattle.waits.proofs.Bounds.{later_fits, later_full}
 use Rattle.waits.proofs.later.Goals as goal
 

@@ -1,5 +1,4 @@
 -- `waits::pair_wait_below` meets its contract.
-use borrow.Author.Rules.{rules}
 use Rattle.rules.specs.Pairs.{GN}
 use Rattle.waits.proofs.pair_wait_below.Goals as goal
 

@@ -3,7 +3,7 @@ use mathlib.Core.Path.{refl, sym}
 use native.Mathlib.Omega.{arith}
 use native.Mathlib.Nat.{div-eq_of_lt}
 use borrow.Author.Rules.{rules}
-use Rattle.waits.proofs.Halving.{Left, keeps, takes, within, ends, exact}
+use Rattle.waits.proofs.Halving.{keeps, takes, within, ends, exact}
 use Rattle.waits.proofs.quotient.Goals as goal
 
 pub returns-then-total-d : goal.returns-then-total-d

@@ -1,9 +1,5 @@
 -- `waits::quotient` meets its contract: of the total so many times the divisor, moved up by k bits, are taken (`Left`).
-use mathlib.Core.Path.{refl, sym}
-use native.Mathlib.Omega.{arith}
-use native.Mathlib.Nat.{div-eq_of_lt}
-use borrow.Author.Rules.{rules}
-use Rattle.waits.proofs.Halving.{Left, keeps, takes, within, ends, exact}
+use Rattle.waits.proofs.Halving.{Left}
 use Rattle.waits.proofs.quotient.Given as goal
 
 abbrev pub invariant-loop-k : goal.invariant-loop-k

@@ -1,5 +1,4 @@
 -- `waits::released_wait_below` meets its contract.
-use borrow.Author.Rules.{rules}
 use Rattle.rules.specs.Pairs.{GN}
 use Rattle.waits.proofs.Bounds.{lag_bound}
 use Rattle.waits.proofs.released_wait_below.Goals as goal

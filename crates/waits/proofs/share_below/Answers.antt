@@ -1,5 +1,4 @@
 -- `waits::share_below` meets its contract.
-use borrow.Author.Rules.{rules}
 use native.Mathlib.Omega.{arith}
 use Rattle.waits.proofs.Bounds.{product}
 use Rattle.waits.proofs.Below.{most_product, below_0, below_by_0, below_at_once, below_by_products}

@@ -1,5 +1,4 @@
 -- `waits::short_of` meets its contract.
-use borrow.Author.Rules.{rules}
 use Rattle.waits.proofs.Digits.{by_lower, by_upper}
 use Rattle.waits.proofs.short_of.Goals as goal
 

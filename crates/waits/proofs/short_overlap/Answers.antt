@@ -1,7 +1,6 @@
 -- `waits::short_overlap` meets its contract.
 use Prim.Native.Nat.{◌<◌}
 use native.Mathlib.Omega.{arith}
-use borrow.Author.Rules.{rules}
 use Rattle.waits.proofs.Bounds.{lag_bound, overlap_product, short_at_most, not_short}
 use Rattle.waits.proofs.short_overlap.Goals as goal
 

@@ -1,5 +1,4 @@
 -- `waits::short_pair` meets its contract.
-use borrow.Author.Rules.{rules}
 use Prim.Native.Nat.{◌<◌}
 use native.Mathlib.Omega.{arith}
 use Rattle.waits.proofs.Bounds.{lag_bound, overlap_product, short_pair_at_most, not_short_pair}

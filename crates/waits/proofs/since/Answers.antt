@@ -1,5 +1,4 @@
 -- `waits::since` meets its contract.
-use borrow.Author.Rules.{rules}
 use Rattle.waits.proofs.Below.{since_before, since_past, since_full}
 use Rattle.waits.proofs.since.Goals as goal
 

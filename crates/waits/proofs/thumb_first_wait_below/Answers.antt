@@ -1,5 +1,4 @@
 -- `waits::thumb_first_wait_below` meets its contract.
-use borrow.Author.Rules.{rules}
 use mathlib.Core.Path.{sym, ◌∙◌}
 use Rattle.rules.specs.Numbers.{FL}
 use Rattle.waits.proofs.Below.{first_smaller, second_smaller}

@@ -1,5 +1,4 @@
 -- `waits::thumb_wait_below` meets its contract.
-use borrow.Author.Rules.{rules}
 use Rattle.rules.specs.Numbers.{B}
 use Rattle.waits.proofs.thumb_wait_below.Goals as goal
 

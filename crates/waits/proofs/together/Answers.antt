@@ -1,5 +1,4 @@
 -- `waits::together` meets its contract.
-use borrow.Author.Rules.{rules}
 use Rattle.waits.proofs.Bounds.{lag_bound}
 use Rattle.waits.proofs.together.Goals as goal
 
