@@ -1,17 +1,15 @@
 -- What the functions store, put together from its parts, and the room that it takes.
-use Prim.Native.Nat.{ℕ, zero, suc, ◌+◌, ◌*◌, ◌-◌, ◌≤◌, ◌<◌, min}
+use Prim.Native.Nat.{ℕ, zero, suc, ◌+◌, ◌*◌, ◌≤◌, ◌<◌}
 use native.Mathlib.Numerals.{add-one}
 use native.Mathlib.Nat.{zero-add}
 use native.Mathlib.Omega.{arith}
 use borrow.Author.Tests.{eq-eqb, ne_eqb, le-leb, lt-leb, eqb-true}
-use mathlib.Core.Bool.{Bool, true, false, ◌&&◌, and-false}
+use mathlib.Core.Bool.{true, false, and-false}
 use mathlib.Core.Path.{◌≡◌, refl, sym, ap, ◌∙◌}
-use mathlib.Core.List.{List, [], ◌∷◌, ◌++◌, map}
+use mathlib.Core.List.{List, [], ◌∷◌, ◌++◌}
 use lib.Dec.{eqb, leb}
-use lib.ListN.{length, take, drop, length-append, length-drop, length-map}
+use lib.ListN.{length, take, drop, length-append, length-map}
 use lib.Seq.{take-append_seam}
-use Rattle.choice.specs.Choice.{if◌then◌else◌}
-use Rattle.rules.specs.Pairs.{no_pairs}
 use Rattle.choice.proofs.Choices.{either}
 use Rattle.filled.specs.Filled.{filled, Stored}
 use Rattle.filled.proofs.Filling.{stored_both}
@@ -24,10 +22,10 @@ use Rattle.console_log.specs.Views.{room_of, told, boards_of, words_of, Holds}
 use Rattle.console_log.specs.declared.Console.{Console}
 use Rattle.status_line.specs.Decimal.{decimal}
 use Rattle.status_line.specs.Status.{line_end, status}
-use Rattle.console_text.specs.Sheet.{label, first_line, second_line, two_lines, board_lines, lines_below, refusal_line, console_lines}
+use Rattle.console_text.specs.Sheet.{label, first_line, second_line, board_lines, lines_below, refusal_line, console_lines}
 use Rattle.console_text.specs.Shows.{longest_log, word_room, text_room, beside, line, size, told_by, fits, shown, Shows}
 use Rattle.console_text.specs.declared.Shown.TheVariants.{Unread, Text}
-use Rattle.console_text.proofs.Picking.{stored_none, stored_length, length_beside}
+use Rattle.console_text.proofs.Picking.{stored_none, length_beside}
 use Rattle.console_text.proofs.Totals.{total, total_few}
 
 -- Lines.

@@ -1,12 +1,10 @@
 -- The lines of each keyboard, from what the console's log says of it.
-use Prim.Native.Nat.{ℕ, ◌≤◌, ◌<◌}
+use Prim.Native.Nat.{ℕ}
 use native.Mathlib.Omega.{arith}
 use borrow.Author.Tests.{ne_eqb}
 use mathlib.Core.List.{List, ◌++◌}
 use mathlib.Core.Logic.{◌≢◌}
-use mathlib.Core.Option.{some}
-use mathlib.Core.Path.{◌≡◌, refl, sym, ap, ◌∙◌}
-use lib.ListN.{length}
+use mathlib.Core.Path.{◌≡◌, refl, ap, ◌∙◌}
 use lib.Count.{ones_in}
 use Rattle.rules.specs.Numbers.{in_range, up, A, B, FJ, FL}
 use Rattle.rules.specs.Layout.{table, code_point}
@@ -22,10 +20,9 @@ use Rattle.row.specs.Row.{keyboard, step_at}
 use Rattle.text.specs.Utf8.{utf8}
 use Rattle.text.specs.Text.{sign, text}
 use Rattle.status_line.specs.Decimal.{decimal}
-use Rattle.status_line.specs.Status.{line_end, status}
+use Rattle.status_line.specs.Status.{status}
 use Rattle.keylog.specs.Records.{stated, is_settings, settings, is_event, event, is_list, list}
 use Rattle.keylog.specs.Walk.{walk}
-use Rattle.keylog.specs.Reader.{waiting_of}
 use Rattle.console_log.specs.ConsoleLog.{names_keyboard, inner_settings, inner_event, at_closed, at_open, at_board, in_front, behind_front}
 use Rattle.console_log.specs.ConsoleLog.{by_record, read_record, stage_of, line_in, waiting_at, read}
 use Rattle.console_log.specs.OwnLogs.{OwnLog}
@@ -35,8 +32,8 @@ use Rattle.console_log.proofs.ConsoleRoom.{room_for_console}
 use Rattle.console_log.proofs.OwnLogs.{own_logs}
 use Rattle.console_log.proofs.EndedSeats.{ended_seats}
 use Rattle.console_text.specs.Sheet.{label, first_line, second_line, two_lines, lines_of, board_lines, refusal_line, console_lines}
-use Rattle.console_text.specs.Shows.{longest_log, word_room}
-use Rattle.console_text.specs.ShownFacts.{Never8, own_reading, OwnLines, OwnLinesStatement, ShownExamples}
+use Rattle.console_text.specs.Shows.{word_room}
+use Rattle.console_text.specs.ShownFacts.{Never8, own_reading, OwnLinesStatement, ShownExamples}
 
 pub never_8 : Never8
 never_8 l h = room_for_console word_room l (omega arith)

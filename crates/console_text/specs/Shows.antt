@@ -1,5 +1,5 @@
 -- What the functions of this crate do.
-use Rattle.std.specs.Prelude.{ℕ, ◌+◌, ◌*◌, ◌≤◌, Bool, ◌&&◌, List, [], ◌∷◌, ◌≡◌, leb, length}
+use Rattle.std.specs.Prelude.{ℕ, ◌≤◌, Bool, ◌&&◌, List, [], ◌∷◌, ◌≡◌, leb, length}
 use Rattle.choice.specs.Choice.{if◌then◌else◌}
 use Rattle.rules.specs.Pairs.{no_pairs}
 use Rattle.filled.specs.Filled.{filled}

@@ -1,4 +1,4 @@
--- `opinion_text::put_lines` meets its contract: `w` is the place behind the words, `o` the entry.
+-- `opinion_text::put_lines` meets its contract.
 use native.Mathlib.Omega.{arith}
 use Rattle.opinion_text.proofs.Verdicts.{lines_stored}
 use Rattle.opinion_text.proofs.put_lines.Goals as goal

@@ -1,4 +1,4 @@
--- `play_text::put_line` meets its contract: the text fits, so `encode` does not answer that it is full. `e` is the place behind `encode`.
+-- `play_text::put_line` meets its contract: the text fits, so `encode` does not answer that it is full.
 use Rattle.play_text.proofs.Reporting.{line_stored, line_fits}
 use Rattle.play_text.proofs.put_line.Goals as goal
 

@@ -1,4 +1,4 @@
--- `play_text::show_end` meets its contract: `e` is the place behind the reader's end, `o` the entry.
+-- `play_text::show_end` meets its contract.
 use native.Mathlib.Omega.{arith}
 use Rattle.play_text.proofs.Reporting.{short_end_list, no_end_room, ended, end_shown}
 use Rattle.play_text.proofs.show_end.Goals as goal

@@ -1,4 +1,4 @@
--- `status_line::put_number` meets its contract: `d` is the place behind the digits.
+-- `status_line::put_number` meets its contract.
 use Prim.Native.Nat.{ℕ, ◌^◌, ◌<◌}
 use native.Mathlib.Omega.{arith}
 use Rattle.status_line.proofs.Places.{put_decimal}

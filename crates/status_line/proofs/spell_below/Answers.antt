@@ -1,4 +1,4 @@
--- `status_line::spell_below` meets its contract: `told` is the place behind the status, `ended` behind the line end before it.
+-- `status_line::spell_below` meets its contract: the parts are stored one behind the other.
 use native.Mathlib.Omega.{arith}
 use Rattle.status_line.proofs.Statuses.{status_stored, below_spelt}
 use Rattle.status_line.proofs.spell_below.Goals as goal

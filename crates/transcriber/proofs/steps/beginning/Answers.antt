@@ -1,4 +1,4 @@
--- `steps::beginning` meets its contract: `settings`, `list` and `strokes` are the places behind the choices, from the last back.
+-- `steps::beginning` meets its contract.
 use Rattle.transcriber.proofs.steps.beginning.Goals as goal
 
 pub returns : goal.returns
