@@ -3,14 +3,14 @@
 use mathlib.Core.Path.{◌≡◌, refl, ap, sym, subst, ◌∙◌}
 use mathlib.Core.Bool.{Bool, true, false, ◌&&◌, and-eq-true_iff}
 use mathlib.Core.Option.{Option, none, some}
-use Prim.Native.Nat.{ℕ, ◌+◌, ◌≤◌, ◌<◌, min, max}
+use Prim.Native.Nat.{ℕ, ◌+◌, ◌≤◌, ◌<◌, min}
 use native.Mathlib.Nat.{min-le_left, max-le}
 use native.Mathlib.Omega.{arith}
 use lib.Dec.{ltb, eqb}
 use lib.IntN.{ℤ}
 use borrow.Author.Tests.{leb-true, ltb-false}
 use Rattle.choice.specs.Choice.{if◌then◌else◌}
-use Rattle.rules.specs.Numbers.{largest_stamp, in_range, A, B, FJ, FL}
+use Rattle.rules.specs.Numbers.{largest_stamp, in_range, B, FJ, FL}
 use Rattle.rules.specs.Pairs.{Lent, in_some_pair, GN, P, alone}
 use Rattle.rules.specs.Held.{held_formed}
 use Rattle.rules.specs.States.{at, lag, at_or_before, later, deadline, keys_below, stamps_by, in_order, pair_lent, well_formed}

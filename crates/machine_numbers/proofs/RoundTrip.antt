@@ -1,10 +1,10 @@
 -- Numbers lose nothing of a machine, and a machine has one form in numbers only: by cases on what rests, and by the tests that
 -- name it.
-use Prim.Native.Nat.{ℕ, ◌<◌}
+use Prim.Native.Nat.{ℕ}
 use mathlib.Core.Bool.{Bool, true, false, ◌&&◌, and-eq-true_iff}
 use mathlib.Core.Option.{Option, none, some, some-injective}
-use mathlib.Core.Path.{◌≡◌, refl, sym, ◌∙◌, ap, subst}
-use lib.Dec.{ltb, eqb}
+use mathlib.Core.Path.{◌≡◌, refl, ◌∙◌, ap, subst}
+use lib.Dec.{eqb}
 use native.Mathlib.Omega.{arith}
 use borrow.Author.Tests.{ltb-true, lt-ltb, eqb-true}
 use Rattle.choice.specs.Choice.{if◌then◌else◌}

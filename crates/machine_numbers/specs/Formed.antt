@@ -1,6 +1,6 @@
 -- Whether numbers name a machine that is well formed (`formed`), and a machine for any numbers (`machine_at`), which is the named one
 -- where they name one. The proof of that is in proofs/Forms.antt.
-use Rattle.std.specs.Prelude.{ℕ, ◌%◌, Bool, true, false, ◌&&◌, ◌≡◌, eqb}
+use Rattle.std.specs.Prelude.{ℕ, ◌%◌, Bool, false, ◌&&◌, ◌≡◌, eqb}
 use Rattle.std.proofs.Math.Option.{Option, none, some}
 use Rattle.choice.specs.Choice.{if◌then◌else◌}
 use Rattle.rules.specs.Pairs.{Lent}

@@ -1,5 +1,4 @@
 -- `deadlines::alone` meets its contract.
-use borrow.Author.Rules.{rules}
 use Rattle.rules.specs.Pairs.{alone, P}
 use Rattle.deadlines.proofs.alone.Goals as goal
 

@@ -1,7 +1,6 @@
 -- `deadlines::at_stamp` meets its contract.
 use mir.Syntax.{w64}
 use mir.ValLaws.{to_z-of_z}
-use borrow.Author.Rules.{rules}
 use Rattle.deadlines.proofs.at_stamp.Goals as goal
 
 pub returns-then-before : goal.returns-then-before

@@ -1,5 +1,4 @@
 -- `deadlines::deadline` meets its contract.
-use borrow.Author.Rules.{rules}
 use borrow.Author.Tests.{eq-eqb, ne_eqb}
 use Rattle.deadlines.proofs.deadline.Goals as goal
 

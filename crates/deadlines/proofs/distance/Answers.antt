@@ -1,5 +1,4 @@
 -- `deadlines::distance` meets its contract.
-use borrow.Author.Rules.{rules}
 use Rattle.deadlines.proofs.Answers.{failed, passed}
 use Rattle.rules.specs.Distance.{asking}
 use Rattle.deadlines.proofs.distance.Goals as goal

@@ -1,5 +1,4 @@
 -- `deadlines::due_in_s2` meets its contract.
-use borrow.Author.Rules.{rules}
 use native.Mathlib.Omega.{arith}
 use mathlib.Core.Path.{sym, ◌∙◌}
 use Rattle.deadlines.proofs.Over.{over_alone, not_yet, in_a_pair, in_no_pair}

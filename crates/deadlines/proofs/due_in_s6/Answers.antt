@@ -1,5 +1,4 @@
 -- `deadlines::due_in_s6` meets its contract.
-use borrow.Author.Rules.{rules}
 use Rattle.deadlines.proofs.due_in_s6.Goals as goal
 
 pub returns : goal.returns

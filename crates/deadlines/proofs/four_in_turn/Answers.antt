@@ -1,5 +1,4 @@
 -- `deadlines::four_in_turn` meets its contract.
-use borrow.Author.Rules.{rules}
 use Rattle.deadlines.specs.ByState.{four_in_turn}
 use Rattle.deadlines.proofs.four_in_turn.Goals as goal
 

@@ -1,5 +1,4 @@
 -- `deadlines::in_turn` meets its contract.
-use borrow.Author.Rules.{rules}
 use Rattle.deadlines.specs.ByState.{in_turn}
 use Rattle.deadlines.proofs.in_turn.Goals as goal
 

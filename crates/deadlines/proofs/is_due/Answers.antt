@@ -1,5 +1,4 @@
 -- `deadlines::is_due` meets its contract.
-use borrow.Author.Rules.{rules}
 use Rattle.deadlines.proofs.is_due.Goals as goal
 
 pub returns-in-S1 : goal.returns-in-S1

@@ -1,5 +1,4 @@
 -- `deadlines::rests_well` meets its contract.
-use borrow.Author.Rules.{rules}
 use Rattle.deadlines.proofs.rests_well.Goals as goal
 
 pub returns-in-S1 : goal.returns-in-S1

@@ -1,5 +1,4 @@
 -- `deadlines::two_letters` meets its contract.
-use borrow.Author.Rules.{rules}
 use Rattle.deadlines.specs.ByState.{two_letters}
 use Rattle.deadlines.proofs.two_letters.Goals as goal
 

@@ -1,5 +1,4 @@
 -- `effects::same_thumb` meets its contract.
-use borrow.Author.Rules.{rules}
 use Rattle.rules.specs.OneEvent.{same_thumb}
 use Rattle.effects.proofs.same_thumb.Goals as goal
 

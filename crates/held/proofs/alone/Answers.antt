@@ -1,5 +1,4 @@
 -- `held::alone` meets its contract: nothing is shifted out.
-use borrow.Author.Rules.{rules}
 use native.Mathlib.Nat.{one-mul}
 use native.Mathlib.Omega.{arith}
 use mathlib.Core.Path.{◌∙◌}

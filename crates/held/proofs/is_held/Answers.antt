@@ -1,6 +1,5 @@
 -- `held::is_held` meets its contract: by the test of the key, which is below the number of bits too.
 use Prim.Native.Nat.{◌/◌, ◌^◌}
-use borrow.Author.Rules.{rules}
 use lib.Bits.{and_mask}
 use Rattle.held.proofs.Keys.{below_32}
 use Rattle.rules.specs.Held.{is_held}

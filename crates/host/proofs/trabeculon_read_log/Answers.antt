@@ -1,5 +1,4 @@
 -- `host::trabeculon_read_log` meets its contract.
-use borrow.Author.Rules.{rules}
 use Rattle.host.proofs.trabeculon_read_log.Goals as goal
 
 pub returns : goal.returns

@@ -1,5 +1,4 @@
 -- `machine_numbers::in_numbers` meets its contract.
-use borrow.Author.Rules.{rules}
 use Rattle.machine_numbers.specs.Fields.{in_numbers}
 use Rattle.machine_numbers.proofs.in_numbers.Goals as goal
 

@@ -1,5 +1,4 @@
 -- `machine_numbers::machine_of` meets its contract.
-use borrow.Author.Rules.{rules}
 use Rattle.machine_numbers.specs.Fields.{named}
 use Rattle.machine_numbers.proofs.machine_of.Goals as goal
 

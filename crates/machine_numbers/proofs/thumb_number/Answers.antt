@@ -1,5 +1,4 @@
 -- `machine_numbers::thumb_number` meets its contract.
-use borrow.Author.Rules.{rules}
 use Rattle.machine_numbers.specs.Fields.{thumb_number}
 use Rattle.machine_numbers.proofs.thumb_number.Goals as goal
 

@@ -1,8 +1,6 @@
 -- `pairs::each_good` meets its contract. The loop's invariant: what the whole list answers is what the list from i on answers.
 use borrow.Author.Rules.{rules}
-use Prim.Native.Nat.{◌-◌}
-use lib.ListN.{length}
-use Rattle.pairs.proofs.Laws.{Checking, check_start, check_bad, check_on, check_end}
+use Rattle.pairs.proofs.Laws.{check_start, check_bad, check_on, check_end}
 use Rattle.pairs.proofs.each_good.Goals as goal
 
 pub loop-i-init : goal.loop-i-init

@@ -1,8 +1,7 @@
 -- `pairs::each_good` meets its contract. The loop's invariant: what the whole list answers is what the list from i on answers.
-use borrow.Author.Rules.{rules}
 use Prim.Native.Nat.{◌-◌}
 use lib.ListN.{length}
-use Rattle.pairs.proofs.Laws.{Checking, check_start, check_bad, check_on, check_end}
+use Rattle.pairs.proofs.Laws.{Checking}
 use Rattle.pairs.proofs.each_good.Given as goal
 
 abbrev pub invariant-loop-i : goal.invariant-loop-i

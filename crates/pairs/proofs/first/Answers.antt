@@ -2,7 +2,6 @@
 use Prim.Native.Nat.{ℕ, ◌/◌, ◌%◌, ◌<◌}
 use native.Mathlib.Omega.{arith}
 use mathlib.Core.Path.{◌≡◌}
-use borrow.Author.Rules.{rules}
 use Rattle.pairs.proofs.first.Goals as goal
 
 top : (w : ℕ) → w < 4_294_967_296 → w / 16_777_216 % 256 ≡ w / 16_777_216

@@ -1,8 +1,6 @@
 -- `pairs::in_some_pair` meets its contract. The loop's invariant: what the whole list answers is what the list from i on answers.
 use borrow.Author.Rules.{rules}
-use Prim.Native.Nat.{◌-◌}
-use lib.ListN.{length}
-use Rattle.pairs.proofs.Laws.{Seeking, seek_start, seek_first, seek_second, seek_on, seek_end}
+use Rattle.pairs.proofs.Laws.{seek_start, seek_first, seek_second, seek_on, seek_end}
 use Rattle.pairs.proofs.in_some_pair.Goals as goal
 
 pub loop-i-init : goal.loop-i-init

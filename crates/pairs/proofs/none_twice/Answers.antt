@@ -1,8 +1,6 @@
 -- `pairs::none_twice` meets its contract. The loop's invariant: what the whole list answers is what the list from i on answers.
 use borrow.Author.Rules.{rules}
-use Prim.Native.Nat.{◌-◌}
-use lib.ListN.{length}
-use Rattle.pairs.proofs.Laws.{Comparing, compare_start, compare_twice, compare_on, compare_end}
+use Rattle.pairs.proofs.Laws.{compare_start, compare_twice, compare_on, compare_end}
 use Rattle.pairs.proofs.none_twice.Goals as goal
 
 pub loop-i-init : goal.loop-i-init

@@ -1,8 +1,7 @@
 -- `pairs::pair_of` meets its contract. The loop's invariant: what the whole list answers is what the list from i on answers.
-use borrow.Author.Rules.{rules}
 use Prim.Native.Nat.{◌-◌}
 use lib.ListN.{length}
-use Rattle.pairs.proofs.Laws.{Looking, look_start, look_found, look_on, look_end}
+use Rattle.pairs.proofs.Laws.{Looking}
 use Rattle.pairs.proofs.pair_of.Given as goal
 
 abbrev pub invariant-loop-i : goal.invariant-loop-i

@@ -1,5 +1,4 @@
 -- `preview::shown_words` meets its contract.
-use borrow.Author.Rules.{rules}
 use Rattle.preview.proofs.shown_words.Goals as goal
 
 pub returns-in-S1 : goal.returns-in-S1

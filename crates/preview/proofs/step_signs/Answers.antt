@@ -1,5 +1,4 @@
 -- `preview::step_signs` meets its contract.
-use borrow.Author.Rules.{rules}
 use Rattle.preview.proofs.Laws.{holds_item, holds_items}
 use Rattle.preview.proofs.step_signs.Goals as goal
 

@@ -1,5 +1,4 @@
 -- `states::act` meets its contract.
-use borrow.Author.Rules.{rules}
 use Rattle.states.proofs.ListAlone.{in_S2_by_list, in_S8_by_list}
 use Rattle.states.proofs.act.Goals as goal
 

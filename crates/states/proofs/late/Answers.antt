@@ -1,5 +1,4 @@
 -- `states::late` meets its contract.
-use borrow.Author.Rules.{rules}
 use Rattle.states.proofs.late.Goals as goal
 
 pub returns-in-S1 : goal.returns-in-S1

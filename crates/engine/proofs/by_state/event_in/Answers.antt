@@ -1,5 +1,4 @@
 -- `engine::by_state::event_in` meets its contract.
-use borrow.Author.Rules.{rules}
 use mathlib.Core.Path.{refl}
 use Rattle.engine.proofs.Laws.{not_late}
 use Rattle.engine.proofs.by_state.event_in.Goals as goal

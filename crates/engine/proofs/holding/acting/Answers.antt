@@ -1,5 +1,4 @@
 -- `engine::holding::acting` meets its contract.
-use borrow.Author.Rules.{rules}
 use Rattle.states.proofs.Meant.{meant_1, meant_2}
 use Rattle.states.specs.Meant.{meant}
 use Rattle.engine.proofs.Acting.{acts_as_itself}

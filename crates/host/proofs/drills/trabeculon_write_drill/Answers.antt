@@ -1,4 +1,3 @@
-use borrow.Author.Rules.{rules}
 use Rattle.host.proofs.drills.trabeculon_write_drill.Goals as goal
 
 pub returns : goal.returns

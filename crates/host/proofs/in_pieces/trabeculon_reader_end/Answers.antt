@@ -1,5 +1,4 @@
 -- `host::in_pieces::trabeculon_reader_end` meets its contract.
-use borrow.Author.Rules.{rules}
 use Rattle.host.proofs.InPieces.{end_given}
 use Rattle.host.proofs.in_pieces.trabeculon_reader_end.Goals as goal
 

@@ -1,5 +1,4 @@
 -- `host::in_pieces::trabeculon_reader_fresh` meets its contract.
-use borrow.Author.Rules.{rules}
 use Rattle.host.proofs.in_pieces.trabeculon_reader_fresh.Goals as goal
 
 pub returns : goal.returns

@@ -1,5 +1,4 @@
 -- `host::in_pieces::trabeculon_reader_piece` meets its contract.
-use borrow.Author.Rules.{rules}
 use Rattle.host.proofs.InPieces.{piece_given}
 use Rattle.host.proofs.in_pieces.trabeculon_reader_piece.Goals as goal
 

@@ -1,5 +1,4 @@
 -- `host::mending::trabeculon_mend` meets its contract.
-use borrow.Author.Rules.{rules}
 use Rattle.host.proofs.mending.trabeculon_mend.Goals as goal
 
 pub returns : goal.returns

@@ -1,5 +1,4 @@
 -- `host::opinion::trabeculon_second_opinion` meets its contract.
-use borrow.Author.Rules.{rules}
 use Rattle.host.proofs.opinion.trabeculon_second_opinion.Goals as goal
 
 pub returns : goal.returns
