@@ -186,7 +186,7 @@ typedef struct {
  * where there is room for them all, are the line of the log's accepted events,
  * and that 2 never comes (LogSequence, keylog/specs/LogSequence.antt); that one
  * number added to every event's stamp, all staying at most the largest, changes
- * nothing (Log-moved, keylog/specs/MovedLog.antt).
+ * nothing (LogMoved, keylog/specs/MovedLog.antt).
  */
 trabeculon_answer trabeculon_read_log(const uint8_t *log, size_t log_len,
                                       uint8_t *out, size_t out_len);
@@ -276,9 +276,9 @@ typedef struct {
  *
  * Proved: the answer and the run afterwards (Writes, writer/specs/Writes.antt,
  * over Drills.antt); the characters (PlaceFacts, lookup/specs/PlaceFacts.antt);
- * the bytes of each (place-size, writer/specs/Parts.antt), and that 8 + 65 for
- * each suffice (Room-suffices, writer/specs/Room.antt); that it reads back
- * (Round-trip, writer/specs/RoundTrip.antt).
+ * the bytes of each (place_size, writer/specs/Parts.antt), and that 8 + 65 for
+ * each suffice (RoomSuffices, writer/specs/Room.antt); that it reads back
+ * (RoundTripStatement, writer/specs/RoundTrip.antt).
  */
 trabeculon_drill trabeculon_write_drill(uint16_t t, uint8_t j, uint8_t l,
                                         uint8_t solo, const uint16_t *line,
@@ -342,15 +342,15 @@ trabeculon_drill trabeculon_write_drill(uint16_t t, uint8_t j, uint8_t l,
  *
  * Proved, of calls from opening on: each is answered as document 01 answers
  * that event (KeyboardFacts, keyboard/specs/KeyboardFacts.antt); the screen and
- * the line (screen-is and line-is in HostFacts,
+ * the line (screen_is and line_is in HostFacts,
  * keyboard/specs/HostScreen.antt); that ticks do no harm, and that a backspace
  * never takes a committed sign (Demand3, rules/specs/Demand3.antt); that only
- * differences of stamps count (Keyboard-moved,
+ * differences of stamps count (KeyboardMovedStatement,
  * keyboard/specs/MovedKeyboard.antt). Of the list: when it is accepted
  * (GoodExactly, rules/specs/PairFacts.antt), that the order of a pair's keys
- * does not matter (either-order there), that every pair that is accepted has
+ * does not matter (either_order there), that every pair that is accepted has
  * such a number (CanBeLent, pairs/specs/LentFacts.antt), and that all is as
- * before where there are no pairs (As-before, rules/specs/Before.antt).
+ * before where there are no pairs (AsBeforeStatement, rules/specs/Before.antt).
  */
 
 /*
@@ -403,13 +403,13 @@ trabeculon_drill trabeculon_write_drill(uint16_t t, uint8_t j, uint8_t l,
  * Proved: every machine whose K is a number of 8 bits, as all here are, has one
  * form in numbers, which names it (LosesNothing and AllFit,
  * machine_numbers/specs/LosesNothing.antt); events keep it well formed
- * (keeps-formed in KeyboardFacts, keyboard/specs/KeyboardFacts.antt); held is a
+ * (keeps_formed in KeyboardFacts, keyboard/specs/KeyboardFacts.antt); held is a
  * set of keys, and its ones are counted as keys (HeldFacts and CountsKeys,
  * rules/specs/HeldFacts.antt); after any events from a fresh machine on a key
  * is held as its accepted downs and ups say, M and K are held, M in state 8
  * apart, and at most 6 are (HeldInSequences, rules/specs/HeldRules.antt). Which
- * bit and which field is whose is said by the definitions is-held
- * (rules/specs/Held.antt) and in-numbers (machine_numbers/specs/Fields.antt).
+ * bit and which field is whose is said by the definitions is_held
+ * (rules/specs/Held.antt) and in_numbers (machine_numbers/specs/Fields.antt).
  * Tested: the 56 bytes (below, and tests/c/live_keyboard.c).
  */
 typedef struct {
@@ -446,7 +446,7 @@ typedef struct {
  * Opens a fresh machine. t is T in milliseconds, j and l are J and L in
  * percent, and solo is 1 if a lone thumb press gives a mark, else 0.
  *
- * Proved: open-numbers (keyboard/specs/Keyboard.antt) of opening
+ * Proved: open_numbers (keyboard/specs/Keyboard.antt) of opening
  * (rules/specs/States.antt).
  */
 trabeculon_opened trabeculon_open(uint16_t t, uint8_t j, uint8_t l, uint8_t solo);
@@ -512,16 +512,16 @@ typedef struct {
  * that is not held, while 6 others are, is refused 11, since a keyboard may
  * ghost then; a repeat never is. Thumbs are not held in this sense.
  *
- * Proved: step-numbers (keyboard/specs/Keyboard.antt) of step
+ * Proved: step_numbers (keyboard/specs/Keyboard.antt) of step
  * (rules/specs/GivenBack.antt); when each number is given, 11 too (Refusals,
  * rules/specs/Refusals.antt); that a repeat, and an up of a key not held, give
  * what a tick gives, refusals too (ActsAsTick), and which keys an event leaves
  * held (HeldAfterwards, both in rules/specs/HeldRules.antt); that the numbers
- * say that number and all that is sent and committed (number-back,
- * sendings-back and words-back in HostFacts, keyboard/specs/HostScreen.antt);
+ * say that number and all that is sent and committed (number_back,
+ * sendings_back and words_back in HostFacts, keyboard/specs/HostScreen.antt);
  * at most 2 items and 4 sendings, 2 backspaces and 3 signs (StepSizes and
- * StepSendable, rules/specs/StepFacts.antt). Of the words of a log: words-are
- * in LogSequence (keylog/specs/LogSequence.antt) and line-is in HostFacts both
+ * StepSendable, rules/specs/StepFacts.antt). Of the words of a log: words_are
+ * in LogSequence (keylog/specs/LogSequence.antt) and line_is in HostFacts both
  * speak of the line of the same events with the same list.
  */
 trabeculon_stepped trabeculon_step(trabeculon_machine machine,
@@ -560,7 +560,7 @@ typedef struct {
  * is due. There is no deadline in state 1, one in state 3 only with solo 1, and
  * always one in the other states.
  *
- * Proved: distance-numbers (keyboard/specs/Keyboard.antt) of asking
+ * Proved: distance_numbers (keyboard/specs/Keyboard.antt) of asking
  * (rules/specs/Distance.antt, over deadline in States.antt); what a tick does,
  * and that asking is refused as a tick is (DistanceNumbers,
  * keyboard/specs/DistanceNumbers.antt).
@@ -593,16 +593,16 @@ trabeculon_asked trabeculon_distance(trabeculon_machine machine,
  *
  * Proved: while the host leaves a keyboard's own numbers alone and lends one
  * list, ts and n, calls at rows are, for that keyboard, calls of trabeculon_step
- * with its own events (Own-calls); two hosts who lend the same, whose keyboards
+ * with its own events (OwnCalls); two hosts who lend the same, whose keyboards
  * get the same events from the same numbers, see the same there, whatever else
- * their rows hold (Isolated-numbers); a keyboard that was opened and then got
+ * their rows hold (IsolatedNumbers); a keyboard that was opened and then got
  * calls at the row alone is answered as document 01 answers its own events, and
  * so when it is asked, its screen and line are its own, demand 3 holds of them,
- * and 5 is given by its own last stamp (Opened-in-row); where the clock of one
- * keyboard begins does not matter (Moved-in-row, all four in
+ * and 5 is given by its own last stamp (OpenedInRowStatement); where the clock
+ * of one keyboard begins does not matter (MovedInRowStatement, all four in
  * keyboard_row/specs/KeyboardsRuns.antt); and a row of numbers is stepped and
- * asked as the row of machines that they name (As-machines,
- * keyboard_row/specs/KeyboardsFacts.antt, over step-at, row/specs/Row.antt).
+ * asked as the row of machines that they name (AsMachinesStatement,
+ * keyboard_row/specs/KeyboardsFacts.antt, over step_at, row/specs/Row.antt).
  */
 
 /*
@@ -654,8 +654,8 @@ typedef struct {
  * trabeculon_step takes them, which don't overlap. Either length may be 0; the
  * pointer is not null even then. In a row of none every number is refused 13.
  *
- * Proved: row-step-numbers (keyboard_row/specs/Keyboards.antt), over
- * step-numbers (keyboard/specs/Keyboard.antt); exactly when 13 is given and
+ * Proved: row_step_numbers (keyboard_row/specs/Keyboards.antt), over
+ * step_numbers (keyboard/specs/Keyboard.antt); exactly when 13 is given and
  * then 12, that all else is the machine's own, what a refused event leaves, and
  * that the other machines and the row's length stay (RowStepFacts,
  * keyboard_row/specs/KeyboardsFacts.antt).
@@ -675,8 +675,8 @@ trabeculon_row_stepped trabeculon_row_step(trabeculon_machine *row,
  * or board is not below row_len, which is tried first, before 12 too. The row
  * is read and not written. What the caller lends is as for trabeculon_row_step.
  *
- * Proved: row-distance-numbers (keyboard_row/specs/Keyboards.antt), over
- * distance-numbers (keyboard/specs/Keyboard.antt); exactly when 13 is given,
+ * Proved: row_distance_numbers (keyboard_row/specs/Keyboards.antt), over
+ * distance_numbers (keyboard/specs/Keyboard.antt); exactly when 13 is given,
  * and that it is refused as a tick at that keyboard is (RowDistanceFacts,
  * keyboard_row/specs/KeyboardsFacts.antt).
  */
@@ -777,10 +777,10 @@ trabeculon_asked trabeculon_row_distance(const trabeculon_machine *row,
  * It is 120 bytes with no padding.
  *
  * Proved: the numbers lose nothing of a reader and name it (ReadersBack,
- * log_reader/specs/ReadersBack.antt, over reader-numbers and reader-named,
+ * log_reader/specs/ReadersBack.antt, over reader_numbers and reader_named,
  * Readers.antt); which are well formed (accepted there, over formed,
- * keylog/specs/Pieces.antt), and that calls keep them so (piece-goes-on and
- * end-goes-on in InPiecesFacts).
+ * keylog/specs/Pieces.antt), and that calls keep them so (piece_goes_on and
+ * end_goes_on in InPiecesFacts).
  * Tested: the 120 bytes (below, and tests/c/read_pieces.c).
  */
 typedef struct {
@@ -834,7 +834,7 @@ typedef struct {
 /*
  * The reader before the first piece. Every number of it is 0.
  *
- * Proved: fresh-numbers (host/specs/InPieces.antt), and that they name the
+ * Proved: fresh_numbers (host/specs/InPieces.antt), and that they name the
  * fresh reader (fresh in InPiecesFacts).
  */
 trabeculon_reader trabeculon_reader_fresh(void);
@@ -862,7 +862,7 @@ trabeculon_reader trabeculon_reader_fresh(void);
  * Proved: the answer, the reader and the run afterwards (GivesPiece,
  * host/specs/InPieces.antt, over piece, keylog/specs/Pieces.antt); 9, and what
  * the totals count (PieceFacts, keylog/specs/PieceFacts.antt); that a run of so
- * many bytes suffices (room-suffices and never-8 in InPiecesFacts).
+ * many bytes suffices (room_suffices and never_8 in InPiecesFacts).
  */
 trabeculon_piece_read trabeculon_reader_piece(trabeculon_reader reader,
                                               uint32_t *list, size_t list_len,
@@ -936,10 +936,10 @@ typedef struct {
  * them overlap. Each length may be 0; the pointer is not null even then.
  *
  * Proved: the answer and both runs afterwards (Mends, mender/specs/Runs.antt,
- * over mending/specs/Mending.antt); the sentences above (Mend-laws,
+ * over mending/specs/Mending.antt); the sentences above (MendLawsStatement,
  * mending/specs/Laws.antt); which records are copied, with which number and
- * offset the others are dropped, and the first 1,000 (Which-records,
- * First-listed, mending/specs/WhichRecords.antt).
+ * offset the others are dropped, and the first 1,000 (WhichRecordsStatement,
+ * FirstListedStatement, mending/specs/WhichRecords.antt).
  */
 trabeculon_mended trabeculon_mend(const uint8_t *log, size_t log_len,
                                   uint8_t *out, size_t out_len,

@@ -1,5 +1,5 @@
 -- What the longest wait bounds: every wait of a state lies within X of the second stamp's, and W is enough for both; where there are
--- pairs, X-pairs and W-pairs.
+-- pairs, X_pairs and W_pairs.
 use Prim.Native.Nat.{ℕ, ◌+◌, ◌-◌, ◌≤◌, ◌<◌, min}
 use native.Mathlib.Nat.{le-div_iff_mul-le, div-mul-le_self, le_trans, mul-le-mul_right, mul-le-mul, le-max_left, le-max_right}
 use native.Mathlib.Omega.{arith}

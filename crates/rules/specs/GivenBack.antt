@@ -106,7 +106,7 @@ pub record Answer : Type 0 where
 abbrev pub refusal : Machine → ℕ → Answer
 refusal m n = record { number = n; items = []; sendings = []; machine = m }
 
--- an accepted event: what one-event commits and leaves, what zero delay sends, the new last stamp and the new held set
+-- an accepted event: what one_event commits and leaves, what zero delay sends, the new last stamp and the new held set
 abbrev pub acceptance : Machine → Stamp → ℕ → Done → Answer
 acceptance m now h d =
     record {

@@ -121,7 +121,7 @@ alone g s M = if in_some_pair g.pairs M then max (A s) (P g) else A s
 unfoldable pub X_pairs : Lent → Settings → ℕ
 X_pairs g s = max (max (A s) (P g)) (D s)
 
--- W where there are pairs: X-pairs + the largest of X-pairs, FJ(X-pairs) and T_s + P
+-- W where there are pairs: X_pairs + the largest of X_pairs, FJ(X_pairs) and T_s + P
 unfoldable pub W_pairs : Lent → Settings → ℕ
 W_pairs g s = X_pairs g s + max (max (X_pairs g s) (FJ s (X_pairs g s))) (g.t_s + P g)
 
