@@ -5,7 +5,7 @@ use mathlib.Core.Option.{none, some, none-ne-some, some-injective}
 use mathlib.Core.Path.{◌≡◌}
 use borrow.Author.Tests.{ne_eqb}
 use lib.Dec.{eqb}
-use Rattle.choice.specs.Choice.{if◌then◌else◌}
+use Rattle.choice.specs.Choice.{if◌then◌otherwise◌}
 use Rattle.rules.specs.States.{is_key}
 use Rattle.rules.specs.GivenBack.{input}
 use Rattle.rules.specs.declared.Key.{Key}
@@ -43,26 +43,26 @@ module _ (kind : ℕ) (k : Key) where
   meant_tick (((((u, a), b), c), d), e) = rw (ne_eqb kind 1 a, ne_eqb kind 2 b, ne_eqb kind 3 c, ne_eqb kind 4 d, ne_eqb kind 5 e)
 
 -- a key that is allowed, and a thumb that is
-one_way : (t : Bool) (a i : Input) → (if t then some a else none) ≡ some i → a ≡ i
+one_way : (t : Bool) (a i : Input) → (if t then some a otherwise none) ≡ some i → a ≡ i
 one_way true a i e = some-injective a i e
 one_way false a i e = absurd (none-ne-some i e)
 
-two_ways : (f : Thumb → Input) (t u : Bool) (i : Input) → (if t then some (f Left) else (if u then some (f Right) else none)) ≡ some i
-    → f (if t then Left else Right) ≡ i
+two_ways : (f : Thumb → Input) (t u : Bool) (i : Input) → (if t then some (f Left) otherwise (if u then some (f Right) otherwise none)) ≡ some i
+    → f (if t then Left otherwise Right) ≡ i
 two_ways f true u i e = some-injective (f Left) i e
 two_ways f false u i e = one_way u (f Right) i e
 
 -- the kinds in turn
 module _ (k : Key) (i : Input) where
   by_kinds : (t1 t2 t3 t4 t5 t6 : Bool)
-      → (if t1 then (if is_key k then some (CharacterDown k) else none) else
-      if t2 then (if is_key k then some (CharacterUp k) else none) else
-      if t3 then (if eqb k.0 0 then some (ThumbDown Left) else if eqb k.0 1 then some (ThumbDown Right) else none) else
-      if t4 then (if eqb k.0 0 then some (ThumbUp Left) else if eqb k.0 1 then some (ThumbUp Right) else none) else
-      if t5 then (if eqb k.0 0 then some FunctionDown else none) else
-      if t6 then (if eqb k.0 0 then some Tick else none) else none) ≡ some i
-      → (if t1 then CharacterDown k else if t2 then CharacterUp k else if t3 then ThumbDown (thumb_of k) else
-      if t4 then ThumbUp (thumb_of k) else if t5 then FunctionDown else Tick) ≡ i
+      → (if t1 then (if is_key k then some (CharacterDown k) otherwise none) otherwise
+      if t2 then (if is_key k then some (CharacterUp k) otherwise none) otherwise
+      if t3 then (if eqb k.0 0 then some (ThumbDown Left) otherwise if eqb k.0 1 then some (ThumbDown Right) otherwise none) otherwise
+      if t4 then (if eqb k.0 0 then some (ThumbUp Left) otherwise if eqb k.0 1 then some (ThumbUp Right) otherwise none) otherwise
+      if t5 then (if eqb k.0 0 then some FunctionDown otherwise none) otherwise
+      if t6 then (if eqb k.0 0 then some Tick otherwise none) otherwise none) ≡ some i
+      → (if t1 then CharacterDown k otherwise if t2 then CharacterUp k otherwise if t3 then ThumbDown (thumb_of k) otherwise
+      if t4 then ThumbUp (thumb_of k) otherwise if t5 then FunctionDown otherwise Tick) ≡ i
   by_kinds true t2 t3 t4 t5 t6 e = one_way (is_key k) _ i e
   by_kinds false true t3 t4 t5 t6 e = one_way (is_key k) _ i e
   by_kinds false false true t4 t5 t6 e = two_ways (λ t. ThumbDown t) (eqb k.0 0) (eqb k.0 1) i e
