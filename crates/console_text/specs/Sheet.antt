@@ -1,6 +1,6 @@
 -- Document 02, 10/12: what the program `console` prints for a console's log.
 use Rattle.std.specs.Prelude.{ℕ, zero, suc, List, [], ◌++◌, eqb}
-use Rattle.choice.specs.Choice.{if◌then◌otherwise◌}
+use Rattle.choice.specs.Choice.{if◌then◌orelse◌}
 use Rattle.row.specs.Row.{most_keyboards}
 use Rattle.text.specs.Text.{ascii, text}
 use Rattle.keylog.specs.Reader.{number_of}
@@ -41,7 +41,7 @@ lines_below c (suc k) = lines_below c k ++ board_lines c k
 
 -- last, if the whole log was refused
 unfoldable pub refusal_line : ℕ → ℕ → List ℕ
-refusal_line number offset = if eqb number 0 then [] otherwise (status number 0 offset ++ line_end)
+refusal_line number offset = if eqb number 0 then [] orelse (status number 0 offset ++ line_end)
 
 unfoldable pub console_lines : Console → List ℕ
 console_lines c = lines_below c most_keyboards ++ refusal_line (number_of c.refusal) c.offset

@@ -1,6 +1,6 @@
 -- What the functions of this crate do.
 use Rattle.std.specs.Prelude.{ℕ, ◌≤◌, Bool, ◌&&◌, List, [], ◌∷◌, ◌≡◌, leb, length}
-use Rattle.choice.specs.Choice.{if◌then◌otherwise◌}
+use Rattle.choice.specs.Choice.{if◌then◌orelse◌}
 use Rattle.rules.specs.Pairs.{no_pairs}
 use Rattle.filled.specs.Filled.{filled}
 use Rattle.text.specs.Text.{text}
@@ -54,8 +54,8 @@ shown l = console_lines (read word_room l)
 
 -- The text stands at the run's front, and the rest is as it was; where nothing was read, the run is as it was.
 pub record Shows (l run : List ℕ) (answer : Shown) (after : List ℕ) : Type 0 where
-  pub answered : answer ≡ if fits l run then Text (length (shown l)) otherwise Unread
-  pub written : after ≡ if fits l run then filled (shown l) run otherwise run
+  pub answered : answer ≡ if fits l run then Text (length (shown l)) orelse Unread
+  pub written : after ≡ if fits l run then filled (shown l) run orelse run
 
 -- the text that is answered lies within a length
 abbrev pub Within : ℕ → Shown → Type 0

@@ -9,7 +9,7 @@ use native.Mathlib.Omega.{arith}
 use lib.Dec.{ltb, eqb}
 use lib.IntN.{ℤ}
 use borrow.Author.Tests.{leb-true, ltb-false}
-use Rattle.choice.specs.Choice.{if◌then◌otherwise◌}
+use Rattle.choice.specs.Choice.{if◌then◌orelse◌}
 use Rattle.rules.specs.Numbers.{largest_stamp, in_range, B, FJ, FL}
 use Rattle.rules.specs.Pairs.{Lent, in_some_pair, GN, P, alone}
 use Rattle.rules.specs.Held.{held_formed}
@@ -134,10 +134,10 @@ same_answer : (last now : Stamp) {a b : Option ℤ} → (now.0 ≤ largest_stamp
 same_answer last now {a} {b} same = go (ltb largest_stamp now.0) refl
   where
     accepted : Option ℤ → Asking
-    accepted d = if ltb now.0 last.0 then not_answered 5 otherwise record { number = 0; distance = d }
+    accepted d = if ltb now.0 last.0 then not_answered 5 orelse record { number = 0; distance = d }
 
     go : (t : Bool) → ltb largest_stamp now.0 ≡ t
-        → (if t then not_answered 4 otherwise accepted a) ≡ (if t then not_answered 4 otherwise accepted b)
+        → (if t then not_answered 4 orelse accepted a) ≡ (if t then not_answered 4 orelse accepted b)
     go true e = refl
     go false e = ap accepted (same (ltb-false _ _ e))
 

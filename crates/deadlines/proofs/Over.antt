@@ -6,7 +6,7 @@ use native.Mathlib.Nat.{le-max_left, le-max_right, max-le}
 use native.Mathlib.Omega.{arith}
 use lib.Dec.{ltb}
 use borrow.Author.Tests.{ltb-true, ltb-false, lt-ltb, le-ltb}
-use Rattle.choice.specs.Choice.{if◌then◌otherwise◌}
+use Rattle.choice.specs.Choice.{if◌then◌orelse◌}
 use Rattle.rules.specs.Numbers.{A, B, FJ, FL}
 use Rattle.rules.specs.Pairs.{Lent, in_some_pair, GN, P, alone}
 use Rattle.rules.specs.States.{at_or_before}
@@ -45,7 +45,7 @@ module _ (g : Lent) (s : Settings) (M : Key) (y : ℕ) where
   unfolding alone
   not_yet e = go (in_some_pair g.pairs M)
     where
-      go : (t : Bool) → false ≡ ltb (if t then max (A s) (P g) otherwise A s) y
+      go : (t : Bool) → false ≡ ltb (if t then max (A s) (P g) orelse A s) y
       go true = sym (le-ltb _ y (omega (arith, ltb-false (A s) y e, le-max_left (A s) (P g))))
       go false = sym e
 

@@ -3,7 +3,7 @@
 -- is well formed, at a stamp that it accepts, they are the papers' (proofs/Formed.antt).
 use Rattle.std.specs.Prelude.{ℕ, min, eqb, ℤ}
 use Rattle.std.proofs.Math.Option.{Option, none, some}
-use Rattle.choice.specs.Choice.{if◌then◌otherwise◌}
+use Rattle.choice.specs.Choice.{if◌then◌orelse◌}
 use Rattle.rules.specs.Numbers.{B, FJ, FL}
 use Rattle.rules.specs.Pairs.{Lent, GN, alone}
 use Rattle.rules.specs.States.{lag}
@@ -19,7 +19,7 @@ abbrev pub until_S2 : Lent → Settings → Key → Stamp → Option Stamp
 until_S2 g s M m = some (later_at_most m (alone g s M))
 
 abbrev pub until_S3 : Settings → Stamp → Option Stamp
-until_S3 s o = if eqb s.solo 1 then some (later_at_most o (B s)) otherwise none
+until_S3 s o = if eqb s.solo 1 then some (later_at_most o (B s)) orelse none
 
 abbrev pub until_S4 : Settings → Stamp → Stamp → Option Stamp
 until_S4 s m o = some (later_at_most o (FJ s (lag_at_most (lag m o))))

@@ -1,6 +1,6 @@
 -- A decimal number from 0 to 65,535, read from ASCII text: at least one digit, and only digits.
 use Rattle.std.specs.Prelude.{ℕ, ◌+◌, ◌*◌, ◌-◌, Bool, ◌&&◌, List, [], ◌∷◌, leb}
-use Rattle.choice.specs.Choice.{if◌then◌otherwise◌}
+use Rattle.choice.specs.Choice.{if◌then◌orelse◌}
 use Rattle.decimals.specs.declared.Number.{Number}
 use Rattle.decimals.specs.declared.Number.TheVariants.{Value, Not}
 
@@ -14,8 +14,8 @@ largest = 65535
 -- a number with one more byte behind its digits
 unfoldable pub extended : ℕ → ℕ → Number
 extended n b =
-    if is_digit b then (if leb (n * 10 + (b - 48)) largest then Value (n * 10 + (b - 48)) otherwise Not)
-    otherwise Not
+    if is_digit b then (if leb (n * 10 + (b - 48)) largest then Value (n * 10 + (b - 48)) orelse Not)
+    orelse Not
 
 abbrev pub and_then : Number → (ℕ → Number) → Number
 and_then (Value n) rest = rest n

@@ -3,7 +3,7 @@
 use Prim.Native.Nat.{ℕ, ◌%◌}
 use mathlib.Core.Bool.{Bool, true, false, not, ◌&&◌}
 use mathlib.Core.Path.{◌≡◌}
-use Rattle.choice.specs.Choice.{if◌then◌otherwise◌}
+use Rattle.choice.specs.Choice.{if◌then◌orelse◌}
 use Rattle.decode.specs.Sequences.{continues, joined, within, surrogate, two, three, four}
 use Rattle.decode.specs.declared.sequence.Sequence.TheVariants.{Damaged, Word}
 
@@ -12,7 +12,7 @@ module _ (a b v : ℕ) (kb range p : Bool)
     (e₂ : range ≡ within 0x80 0x7FF v)
     (e₃ : kb ≡ continues b)
     (e₄ : v ≡ joined (a % 32) b) where
-  two_is : two a b ≡ if p then Word v 1 otherwise Damaged
+  two_is : two a b ≡ if p then Word v 1 orelse Damaged
   unfolding two
   two_is = rw (← e₄, ← e₃, ← e₂, ← e₁)
 
@@ -32,7 +32,7 @@ module _ (a b c u v : ℕ) (kb kc k range form hole p : Bool)
     (e₇ : kb ≡ continues b)
     (e₈ : v ≡ joined u c)
     (e₉ : u ≡ joined (a % 16) b) where
-  three_is : three a b c ≡ if p then Word v 2 otherwise Damaged
+  three_is : three a b c ≡ if p then Word v 2 orelse Damaged
   unfolding three
   three_is = rw (← e₉, ← e₈, ← e₇, ← e₆, ← e₅, ← e₄, ← e₃, ← e₂, ← e₁)
 
@@ -53,7 +53,7 @@ module _ (a b c d t u v : ℕ) (kb kc k kd form range p : Bool)
     (e₈ : v ≡ joined u d)
     (e₉ : u ≡ joined t c)
     (e₁₀ : t ≡ joined (a % 8) b) where
-  four_is : four a b c d ≡ if p then Word 0 3 otherwise Damaged
+  four_is : four a b c d ≡ if p then Word 0 3 orelse Damaged
   unfolding four
   four_is = rw (← e₁₀, ← e₉, ← e₈, ← e₇, ← e₆, ← e₅, ← e₄, ← e₃, ← e₂, ← e₁)
 

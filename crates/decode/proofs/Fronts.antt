@@ -6,7 +6,7 @@ use mathlib.Core.Path.{◌≡◌, refl}
 use mathlib.Core.List.{List, [], ◌∷◌}
 use lib.Dec.{eqb}
 use lib.ListN.{length}
-use Rattle.choice.specs.Choice.{if◌then◌otherwise◌}
+use Rattle.choice.specs.Choice.{if◌then◌orelse◌}
 use Rattle.choice.proofs.Choices.{both_ways}
 use Rattle.decode.specs.Sequences.{continues, joined, within, surrogate, two, three, four, byte, front}
 use Rattle.decode.specs.declared.sequence.Sequence.{Sequence}
@@ -32,7 +32,7 @@ pub data Follow (n : ℕ) : Sequence → Type 0 where
   none : Follow n Damaged
   some : {w more : ℕ} → more < n → Follow n (Word w more)
 
-of_form : (n w more : ℕ) (p : Bool) → (p ≡ true → more < n) → Follow n (if p then Word w more otherwise Damaged)
+of_form : (n w more : ℕ) (p : Bool) → (p ≡ true → more < n) → Follow n (if p then Word w more orelse Damaged)
 of_form n w more true f = some (f refl)
 of_form n w more false f = none
 

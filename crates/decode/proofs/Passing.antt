@@ -9,7 +9,7 @@ use mathlib.Core.List.{List, [], ◌∷◌, ◌++◌, append_assoc, append-nil}
 use lib.Dec.{leb}
 use lib.ListN.{length, take, drop, set, length-append, length-drop}
 use lib.Seq.{take_all, drop-nil, drop-drop, drop-length}
-use Rattle.choice.specs.Choice.{if◌then◌otherwise◌}
+use Rattle.choice.specs.Choice.{if◌then◌orelse◌}
 use Rattle.choice.proofs.Choices.{by_test}
 use Rattle.filled.specs.Filled.{filled}
 use Rattle.filled.proofs.Filling.{filled_more, length_filled, stored_1}
@@ -178,7 +178,7 @@ fits_if room (words ws) =
 fits_if room (damaged at) = λ e. absurd (false≢true e)
 
 kept_by : (t : Bool) (n : ℕ) (new run : List ℕ)
-    → all_written (if t then Decoded.TheVariants.Words n otherwise Decoded.TheVariants.Full) ≡ false → run ≡ if t then new otherwise run
+    → all_written (if t then Decoded.TheVariants.Words n orelse Decoded.TheVariants.Full) ≡ false → run ≡ if t then new orelse run
 kept_by true n new run e = absurd (true≢false e)
 kept_by false n new run e = refl
 

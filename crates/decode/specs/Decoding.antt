@@ -1,6 +1,6 @@
 -- Bytes read as UTF-8: the words of all their sequences, or the position of the first damaged one.
 use Rattle.std.specs.Prelude.{ℕ, zero, suc, ◌+◌, ◌≤◌, List, [], ◌∷◌, ◌≡◌, leb, length}
-use Rattle.choice.specs.Choice.{if◌then◌otherwise◌}
+use Rattle.choice.specs.Choice.{if◌then◌orelse◌}
 use Rattle.filled.specs.Filled.{filled}
 use Rattle.decode.specs.Sequences.{front}
 use Rattle.decode.specs.declared.sequence.Sequence.{Sequence}
@@ -33,13 +33,13 @@ decoded bytes = decoded_from 0 0 bytes
 
 -- What `decode` answers where a run has room for so many words. Damage is found before the room is looked at.
 abbrev pub answer_of : ℕ → Decoding → Decoded.Decoded
-answer_of room (words ws) = if leb (length ws) room then Decoded.TheVariants.Words (length ws) otherwise Decoded.TheVariants.Full
+answer_of room (words ws) = if leb (length ws) room then Decoded.TheVariants.Words (length ws) orelse Decoded.TheVariants.Full
 answer_of room (damaged at) = Decoded.TheVariants.Damaged at
 
 -- What the run holds then: the words at its front, and then what it held. With damaged bytes, or words that don't fit, it is as it
 -- was.
 abbrev pub run_after : List ℕ → Decoding → List ℕ
-run_after run (words ws) = if leb (length ws) (length run) then filled ws run otherwise run
+run_after run (words ws) = if leb (length ws) (length run) then filled ws run orelse run
 run_after run (damaged at) = run
 
 -- no damage, and room for the words

@@ -9,7 +9,7 @@
 -- outside of its form's range or a surrogate, U+D800 to U+DFFF. So a form that is longer than needed is damaged, and what begins
 -- with one of the bytes 80 to C1 or F5 to FF.
 use Rattle.std.specs.Prelude.{ℕ, ◌+◌, ◌*◌, ◌/◌, ◌%◌, Bool, not, ◌&&◌, List, eqb, leb, get_or}
-use Rattle.choice.specs.Choice.{if◌then◌otherwise◌}
+use Rattle.choice.specs.Choice.{if◌then◌orelse◌}
 use Rattle.decode.specs.declared.sequence.Sequence.{Sequence}
 use Rattle.decode.specs.declared.sequence.Sequence.TheVariants.{Damaged, Word}
 
@@ -32,14 +32,14 @@ unfoldable pub two : ℕ → ℕ → Sequence
 two a b =
     if continues b && within 0x80 0x7FF (joined (a % 32) b)
     then Word (joined (a % 32) b) 1
-    otherwise Damaged
+    orelse Damaged
 
 unfoldable pub three : ℕ → ℕ → ℕ → Sequence
 three a b c =
     if continues b && continues c
     && within 0x800 0xFFFF (joined (joined (a % 16) b) c) && not (surrogate (joined (joined (a % 16) b) c))
     then Word (joined (joined (a % 16) b) c) 2
-    otherwise Damaged
+    orelse Damaged
 
 -- No 16-bit word holds a code point past U+FFFF, and yet it is no damage. It gives the word 0, which is on no face of the layout:
 -- so whoever writes the line's log refuses the character, with its place in the line.
@@ -47,7 +47,7 @@ unfoldable pub four : ℕ → ℕ → ℕ → ℕ → Sequence
 four a b c d =
     if continues b && continues c && continues d && within 0x10000 0x10FFFF (joined (joined (joined (a % 8) b) c) d)
     then Word 0 3
-    otherwise Damaged
+    orelse Damaged
 
 -- the byte at a place; past the end it counts 0, which continues no sequence
 abbrev pub byte : ℕ → List ℕ → ℕ
@@ -56,8 +56,8 @@ byte at s = get_or s at 0
 -- the sequence at the front of some bytes, by its first byte
 unfoldable pub front : List ℕ → Sequence
 front s =
-    if eqb (byte 0 s / 128) 0b0 then Word (byte 0 s) 0 otherwise
-    if eqb (byte 0 s / 32) 0b110 then two (byte 0 s) (byte 1 s) otherwise
-    if eqb (byte 0 s / 16) 0b1110 then three (byte 0 s) (byte 1 s) (byte 2 s) otherwise
-    if eqb (byte 0 s / 8) 0b11110 then four (byte 0 s) (byte 1 s) (byte 2 s) (byte 3 s) otherwise
+    if eqb (byte 0 s / 128) 0b0 then Word (byte 0 s) 0 orelse
+    if eqb (byte 0 s / 32) 0b110 then two (byte 0 s) (byte 1 s) orelse
+    if eqb (byte 0 s / 16) 0b1110 then three (byte 0 s) (byte 1 s) (byte 2 s) orelse
+    if eqb (byte 0 s / 8) 0b11110 then four (byte 0 s) (byte 1 s) (byte 2 s) (byte 3 s) orelse
     Damaged

@@ -9,7 +9,7 @@ use mathlib.Core.Path.{◌≡◌, refl, sym, ap, ◌∙◌}
 use lib.Dec.{eqb, leb}
 use lib.ListN.{length, take, drop, length-append, length-take}
 use lib.Seq.{take-append_seam}
-use Rattle.choice.specs.Choice.{if◌then◌otherwise◌}
+use Rattle.choice.specs.Choice.{if◌then◌orelse◌}
 use Rattle.rules.specs.Numbers.{in_range}
 use Rattle.rules.specs.declared.Settings.{Settings}
 use Rattle.choice.proofs.Choices.{both_ways, by_test}
@@ -74,8 +74,8 @@ module _ (bytes run after : List ℕ) (r : Decoded.Decoded) (d : Decodes bytes r
   words_taken n e = by_words (decoded bytes) refl (sym e ∙ d.answered) d.written
     where
       by_room : (ws : List ℕ) (t : Bool)
-          → Decoded.TheVariants.Words n ≡ (if t then Decoded.TheVariants.Words (length ws) otherwise Decoded.TheVariants.Full)
-          → after ≡ (if t then filled ws run otherwise run)
+          → Decoded.TheVariants.Words n ≡ (if t then Decoded.TheVariants.Words (length ws) orelse Decoded.TheVariants.Full)
+          → after ≡ (if t then filled ws run orelse run)
           → (n ≤ length after) × (ws ≡ take n after)
       by_room ws true f g =
           let k : n ≡ length ws = cc in
@@ -94,7 +94,7 @@ module _ (bytes run after : List ℕ) (r : Decoded.Decoded) (d : Decodes bytes r
   damage_found at e = by_words (decoded bytes) refl (sym e ∙ d.answered)
     where
       not_words : (t : Bool) (n : ℕ) {A : Type 0}
-          → Decoded.TheVariants.Damaged at ≡ (if t then Decoded.TheVariants.Words n otherwise Decoded.TheVariants.Full) → A
+          → Decoded.TheVariants.Damaged at ≡ (if t then Decoded.TheVariants.Words n orelse Decoded.TheVariants.Full) → A
       not_words true n e = absurd (let z : ◌≡◌ {A = ℕ} 0 1 = cc in omega arith)
       not_words false n e = absurd (let z : ◌≡◌ {A = ℕ} 0 1 = cc in omega arith)
 
@@ -107,7 +107,7 @@ module _ (bytes run after : List ℕ) (r : Decoded.Decoded) (d : Decodes bytes r
   never_full room long few e = absurd (by_words (decoded bytes) refl (sym e ∙ d.answered))
     where
       by_room : (ws : List ℕ) (t : Bool) → leb (length ws) (length run) ≡ t → length ws ≤ length run
-          → Decoded.TheVariants.Full ≡ (if t then Decoded.TheVariants.Words (length ws) otherwise Decoded.TheVariants.Full) → ⊥
+          → Decoded.TheVariants.Full ≡ (if t then Decoded.TheVariants.Words (length ws) orelse Decoded.TheVariants.Full) → ⊥
       by_room ws true f k g = let z : ◌≡◌ {A = ℕ} 0 1 = cc in omega arith
       by_room ws false f k g = omega (arith, leb-false (length ws) (length run) f)
 

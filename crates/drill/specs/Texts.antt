@@ -1,6 +1,6 @@
 -- Document 02, 2/12: what the program makes of the text that it reads.
 use Rattle.std.specs.Prelude.{ℕ, ◌-◌, ◌≤◌, List, ◌≡◌, eqb, length, take, get_or}
-use Rattle.choice.specs.Choice.{if◌then◌otherwise◌}
+use Rattle.choice.specs.Choice.{if◌then◌orelse◌}
 use Rattle.rules.specs.declared.Settings.{Settings}
 use Rattle.decode.specs.Decoding.{Decoding, words, damaged, decoded}
 use Rattle.writer.specs.declared.Drilled.{Drilled}
@@ -17,14 +17,14 @@ last_byte text = get_or text (length text - 1) 0
 
 -- one final line end is not part of the line
 unfoldable pub line_size : List ℕ → ℕ
-line_size text = if eqb (last_byte text) 10 then length text - 1 otherwise length text
+line_size text = if eqb (last_byte text) 10 then length text - 1 orelse length text
 
 abbrev pub line_of : List ℕ → List ℕ
 line_of text = take (line_size text) text
 
 -- what the writer answers of a line
 abbrev pub told : Drilled → Answer
-told d = if eqb d.number 0 then Log d.bytes otherwise Refused d.number d.position
+told d = if eqb d.number 0 then Log d.bytes orelse Refused d.number d.position
 
 -- a line into a run
 pub record Answers (s : Settings) (line run : List ℕ) (answer : Answer) (after : List ℕ) : Type 0 where

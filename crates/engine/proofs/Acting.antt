@@ -4,7 +4,7 @@ use mathlib.Core.Bool.{Bool, true, false}
 use mathlib.Core.Path.{◌≡◌, refl}
 use borrow.Author.Tests.{ne_eqb}
 use lib.Dec.{eqb}
-use Rattle.choice.specs.Choice.{if◌then◌otherwise◌}
+use Rattle.choice.specs.Choice.{if◌then◌orelse◌}
 use Rattle.rules.specs.GivenBack.{acts_as, held_after}
 use Rattle.rules.specs.declared.Key.{Key}
 use Rattle.rules.specs.declared.Input.{Input}
@@ -14,9 +14,9 @@ use Rattle.states.specs.Meant.{thumb_of, meant}
 -- what such a kind means
 abbrev no_character : Key → Bool → Bool → Bool → Input
 no_character k t3 t4 t5 =
-    if t3 then ThumbDown (thumb_of k) otherwise
-    if t4 then ThumbUp (thumb_of k) otherwise
-    if t5 then FunctionDown otherwise Tick
+    if t3 then ThumbDown (thumb_of k) orelse
+    if t4 then ThumbUp (thumb_of k) orelse
+    if t5 then FunctionDown orelse Tick
 
 acts : (h : ℕ) (k : Key) (t3 t4 t5 : Bool) → no_character k t3 t4 t5 ≡ acts_as h (no_character k t3 t4 t5)
 acts h k true t4 t5 = refl

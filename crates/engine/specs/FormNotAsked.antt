@@ -3,7 +3,7 @@
 -- (crates/deadlines/specs/Capped.antt). Where both hold this is a step apart from what is sent, as `AsStep` says; the proof is
 -- proofs/FormNotAsked.antt.
 use Rattle.std.specs.Prelude.{ℕ, true, ◌≡◌}
-use Rattle.choice.specs.Choice.{if◌then◌otherwise◌}
+use Rattle.choice.specs.Choice.{if◌then◌orelse◌}
 use Rattle.rules.specs.Pairs.{Lent, lent_good}
 use Rattle.rules.specs.States.{well_formed}
 use Rattle.rules.specs.OneEvent.{Done, ◌leaving◌, nothing, late, act, due_by, and_then}
@@ -25,7 +25,7 @@ judge_event m e = judge_input m e (input e.kind e.key)
 -- the line "late", once, if the deadline is at or before the event's stamp; then the event acts
 unfoldable pub one_event_at_most : Lent → Settings → Stamp → Resting → Input → Done
 one_event_at_most g s now x i =
-    and_then (if due_by now (deadline_at_most g s x) then late g s x otherwise (nothing leaving x)) (λ y. act g s now y i)
+    and_then (if due_by now (deadline_at_most g s x) then late g s x orelse (nothing leaving x)) (λ y. act g s now y i)
 
 -- what an accepted event commits, and the machine that it leaves, with the keys of h held
 abbrev pub keeps : Machine → Stamp → ℕ → Done → Kept

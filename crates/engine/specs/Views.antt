@@ -1,6 +1,6 @@
 -- What the answers of this crate say.
 use Rattle.std.specs.Prelude.{ℕ, List, ◌≡◌, eqb}
-use Rattle.choice.specs.Choice.{if◌then◌otherwise◌}
+use Rattle.choice.specs.Choice.{if◌then◌orelse◌}
 use Rattle.rules.specs.Numbers.{keys}
 use Rattle.rules.specs.OneEvent.{Done}
 use Rattle.rules.specs.GivenBack as given_back
@@ -18,16 +18,16 @@ use Rattle.engine.specs.declared.Taken as Taken
 -- how many keys an event of a kind may name (`input` in rules/specs/GivenBack.antt): 31 character keys, two thumbs, and the number 0
 abbrev pub keys_of : ℕ → ℕ
 keys_of kind =
-    if eqb kind 1 then keys otherwise
-    if eqb kind 2 then keys otherwise
-    if eqb kind 3 then 2 otherwise
-    if eqb kind 4 then 2 otherwise
-    if eqb kind 5 then 1 otherwise
-    if eqb kind 6 then 1 otherwise 0
+    if eqb kind 1 then keys orelse
+    if eqb kind 2 then keys orelse
+    if eqb kind 3 then 2 orelse
+    if eqb kind 4 then 2 orelse
+    if eqb kind 5 then 1 orelse
+    if eqb kind 6 then 1 orelse 0
 
 -- the verdict that a number tells: 0, the event is accepted as an input; else it is refused with that number
 abbrev pub judged : ℕ → Input → Verdict
-judged n i = if eqb n 0 then given_back.accepted i otherwise given_back.refused n
+judged n i = if eqb n 0 then given_back.accepted i orelse given_back.refused n
 
 -- the number, the items and the sendings as lists, and the machine
 abbrev pub stepped : Stepped → Answer
@@ -56,7 +56,7 @@ pub data Kept : Type 0 where
   accepted : List Item → Machine → Kept
 
 abbrev pub apart_from_sent : Answer → Kept
-apart_from_sent a = if eqb a.number 0 then accepted a.items a.machine otherwise refused a.number
+apart_from_sent a = if eqb a.number 0 then accepted a.items a.machine orelse refused a.number
 
 abbrev pub taken : Taken.Taken → Kept
 taken (Taken.TheVariants.Refused n) = refused n

@@ -5,7 +5,7 @@ use mathlib.Core.List.{[], ◌∷◌, cons≢nil}
 use mathlib.Core.Path.{◌≡◌, refl, sym, ap, ◌∙◌}
 use lib.Dec.{eqb}
 use borrow.Author.Tests.{eqb-true}
-use Rattle.choice.specs.Choice.{if◌then◌otherwise◌}
+use Rattle.choice.specs.Choice.{if◌then◌orelse◌}
 use Rattle.rules.specs.ZeroDelay.{sign_unless_0, character, sign_of}
 use Rattle.rules.specs.GivenBack.{Answer}
 use Rattle.rules.specs.declared.Thumb.TheVariants.{Left, Right}
@@ -24,7 +24,7 @@ use Rattle.keyboard.specs.Keyboard.{word_of, words_of, answer_numbers, answered_
 same_word : (a b : ℕ) → sign_unless_0 a ≡ sign_unless_0 b → a ≡ b
 same_word a b = go (eqb a 0) (eqb b 0) refl refl
   where
-    go : (s t : Bool) → eqb a 0 ≡ s → eqb b 0 ≡ t → (if s then [] otherwise (a ∷ [])) ≡ (if t then [] otherwise (b ∷ [])) → a ≡ b
+    go : (s t : Bool) → eqb a 0 ≡ s → eqb b 0 ≡ t → (if s then [] orelse (a ∷ [])) ≡ (if t then [] orelse (b ∷ [])) → a ≡ b
     go true true e f h = eqb-true a 0 e ∙ sym (eqb-true b 0 f)
     go true false e f h = absurd (cons≢nil (sym h))
     go false true e f h = absurd (cons≢nil h)

@@ -1,7 +1,7 @@
 -- What a C host leans on when it asks for the distance: the laws of document 02, 3/12, of the numbers that it hands over and gets.
 -- The proofs are in proofs/DistanceNumbers.antt.
 use Rattle.std.specs.Prelude.{ℕ, ◌+◌, ◌≤◌, ◌<◌, ◌≢◌, ◌≡◌, eqb, pos, ◌-ℤ◌}
-use Rattle.choice.specs.Choice.{if◌then◌otherwise◌}
+use Rattle.choice.specs.Choice.{if◌then◌orelse◌}
 use Rattle.rules.specs.Numbers.{largest_stamp}
 use Rattle.rules.specs.Pairs.{Lent}
 use Rattle.rules.specs.States.{later}
@@ -36,7 +36,7 @@ told_later r d =
     record {
       number = r.number;
       deadline = r.deadline;
-      milliseconds = if eqb r.deadline 1 then r.milliseconds -ℤ pos d otherwise r.milliseconds;
+      milliseconds = if eqb r.deadline 1 then r.milliseconds -ℤ pos d orelse r.milliseconds;
     }
 
 abbrev pub with_last : MachineNumbers → Stamp → MachineNumbers

@@ -2,7 +2,7 @@
 -- and gets. The numbers of a machine are `machine_numbers`'s. g is what is lent (9/12).
 use Rattle.std.specs.Prelude.{ℕ, List, map, ℤ, pos, length, get_or}
 use Rattle.std.proofs.Math.Option.{Option, none, some}
-use Rattle.choice.specs.Choice.{if◌then◌otherwise◌}
+use Rattle.choice.specs.Choice.{if◌then◌orelse◌}
 use Rattle.rules.specs.Layout.{code_point}
 use Rattle.rules.specs.Pairs.{Lent, lent_good}
 use Rattle.rules.specs.States.{Opening}
@@ -84,7 +84,7 @@ refused_numbers f n =
 
 -- numbers that name no machine are refused 2, but 12 comes first
 abbrev pub no_machine_number : Lent → ℕ
-no_machine_number g = if lent_good g then 2 otherwise 12
+no_machine_number g = if lent_good g then 2 orelse 12
 
 abbrev pub step_named : Lent → MachineNumbers → Event → Option Machine → StepAnswer
 step_named g f e none = refused_numbers f (no_machine_number g)

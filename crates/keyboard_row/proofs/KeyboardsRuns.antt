@@ -9,7 +9,7 @@ use mathlib.Core.Path.{◌≡◌, refl, sym, ap, subst, ◌∙◌}
 use lib.Dec.{eqb}
 use lib.ListN.{get_elem?}
 use borrow.Author.Tests.{eqb-true, eqb-false}
-use Rattle.choice.specs.Choice.{if◌then◌otherwise◌}
+use Rattle.choice.specs.Choice.{if◌then◌orelse◌}
 use Rattle.rules.specs.Pairs.{Lent}
 use Rattle.rules.specs.Numbers.{in_range, settings_of}
 use Rattle.rules.specs.States.{Opening, opening, later}
@@ -83,8 +83,8 @@ module _ (g : Lent) (k : ℕ) where
       left = subst (λ (a : RowNumbers). FoundNumbers a.row k after) same next
 
       go : (t : Bool) → eqb x.board k ≡ t → KeyboardCalls g after (events_of k xs) (answers_of k xs rs)
-          → KeyboardCalls g f ((if t then (x.event ∷ []) otherwise []) ++ events_of k xs)
-          ((if t then own_answer r.told (get_elem? r.row k) otherwise []) ++ answers_of k xs rs)
+          → KeyboardCalls g f ((if t then (x.event ∷ []) orelse []) ++ events_of k xs)
+          ((if t then own_answer r.told (get_elem? r.row k) orelse []) ++ answers_of k xs rs)
       go true own rest =
           let here : own_answer r.told (get_elem? r.row k) ≡ step_numbers g f x.event ∷ []
           = rw same (answer_own row x f found own) in

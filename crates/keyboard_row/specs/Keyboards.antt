@@ -3,7 +3,7 @@
 use Rattle.std.specs.Prelude.{ℕ, List, leb, pos, length, set}
 use Rattle.std.proofs.Math.Option.{Option, none, some}
 use Rattle.std.proofs.Math.ListN.{get_elem?}
-use Rattle.choice.specs.Choice.{if◌then◌otherwise◌}
+use Rattle.choice.specs.Choice.{if◌then◌orelse◌}
 use Rattle.rules.specs.Pairs.{Lent}
 use Rattle.rules.specs.declared.Stamp.{Stamp}
 use Rattle.rules.specs.declared.Event.{Event}
@@ -17,7 +17,7 @@ use Rattle.keyboard_row.specs.declared.Advanced.{Advanced}
 
 -- the numbers of keyboard k of a row; none where the row is above 16 or k is past the row
 unfoldable pub keyboard_numbers : List MachineNumbers → ℕ → Option MachineNumbers
-keyboard_numbers row k = if leb (length row) most_keyboards then get_elem? row k otherwise none
+keyboard_numbers row k = if leb (length row) most_keyboards then get_elem? row k orelse none
 
 -- One event.
 

@@ -3,7 +3,7 @@
 use Rattle.std.specs.Prelude.{ℕ, ◌<◌, true, List, [], ◌∷◌, ◌++◌, map, ◌↔◌, ◌≡◌, eqb}
 use Rattle.std.proofs.Math.Option.{Option, none, some}
 use Rattle.std.proofs.Math.ListN.{get_elem?}
-use Rattle.choice.specs.Choice.{if◌then◌otherwise◌}
+use Rattle.choice.specs.Choice.{if◌then◌orelse◌}
 use Rattle.rules.specs.Numbers.{settings_of}
 use Rattle.rules.specs.Pairs.{Lent, lent_good}
 use Rattle.rules.specs.States.{later, fresh, opening}
@@ -74,7 +74,7 @@ own_answer r (some f) =
 abbrev pub answers_of : ℕ → List RowEvent → List RowNumbers → List StepAnswer
 answers_of k [] rs = []
 answers_of k (x ∷ xs) [] = []
-answers_of k (x ∷ xs) (r ∷ rs) = (if eqb x.board k then own_answer r.told (get_elem? r.row k) otherwise []) ++ answers_of k xs rs
+answers_of k (x ∷ xs) (r ∷ rs) = (if eqb x.board k then own_answer r.told (get_elem? r.row k) orelse []) ++ answers_of k xs rs
 
 -- The bridge: calls at a row are, for keyboard k, calls of `trabeculon_step` with its own events, each with the machine that the one
 -- before gave back. So all that is proved of those holds at a row.

@@ -1,6 +1,6 @@
 -- The table by rows of three, and what a key's face is in such rows.
 use Rattle.std.specs.Prelude.{ℕ, List, [], ◌∷◌, ◌≡◌, get_or}
-use Rattle.choice.specs.Choice.{if◌then◌otherwise◌}
+use Rattle.choice.specs.Choice.{if◌then◌orelse◌}
 use Rattle.rules.specs.Layout.{table, face_of, code_point}
 use Rattle.rules.specs.States.{is_key}
 use Rattle.rules.specs.declared.Key.{Key}
@@ -26,7 +26,7 @@ rows = side_by_side (face_of Plain table) (face_of (With Left) table) (face_of (
 
 -- the code point of a key's face in some rows, 0 for a key that is not there
 unfoldable pub code_point_in : List (List ℕ) → Key → Face → ℕ
-code_point_in rs k f = if is_key k then get_or (get_or rs k.0 []) (column_of f) 0 otherwise 0
+code_point_in rs k f = if is_key k then get_or (get_or rs k.0 []) (column_of f) 0 orelse 0
 
 -- in document 01's it is document 01's; proved in proofs/Table.antt
 abbrev pub InRows : Type 0

@@ -1,7 +1,7 @@
 -- Document 02, 2/12: where a character stands on the layout of document 01.
 use Rattle.std.specs.Prelude.{ℕ, suc, List, [], ◌∷◌, eqb}
 use Rattle.std.proofs.Math.Option.{Option, none, some}
-use Rattle.choice.specs.Choice.{if◌then◌otherwise◌}
+use Rattle.choice.specs.Choice.{if◌then◌orelse◌}
 use Rattle.rules.specs.Layout.{table, face_of}
 use Rattle.rules.specs.declared.Key.{Key}
 use Rattle.rules.specs.declared.Thumb.TheVariants.{Left, Right}
@@ -20,7 +20,7 @@ place k f = record { key = record { 0 = k }; face = f }
 -- the key of a code point among the code points of one face, counted from n
 abbrev pub key_from : ℕ → Face → ℕ → List ℕ → Option Place
 key_from n f c [] = none
-key_from n f c (d ∷ l) = if eqb d c then some (place n f) otherwise key_from (suc n) f c l
+key_from n f c (d ∷ l) = if eqb d c then some (place n f) orelse key_from (suc n) f c l
 
 abbrev pub on_face : Face → ℕ → Option Place
 on_face f c = key_from 0 f c (face_of f table)
@@ -34,7 +34,7 @@ or_else none o = o
 -- character.
 unfoldable pub place_of : ℕ → Option Place
 unfolding table
-place_of c = if eqb c 0 then none otherwise or_else (on_face Plain c) (or_else (on_face (With Left) c) (on_face (With Right) c))
+place_of c = if eqb c 0 then none orelse or_else (on_face Plain c) (or_else (on_face (With Left) c) (on_face (With Right) c))
 
 -- what the cases of the answer of `find` say
 abbrev pub found : Found → Option Place

@@ -7,7 +7,7 @@ use mathlib.Core.Option.{Option, none, some, none-ne-some}
 use mathlib.Core.Path.{◌≡◌, refl, sym, ap, ◌∙◌}
 use lib.Dec.{ltb, eqb}
 use borrow.Author.Tests.{ltb-true, lt-ltb, le-ltb, eqb-true, eqb-false}
-use Rattle.choice.specs.Choice.{if◌then◌otherwise◌}
+use Rattle.choice.specs.Choice.{if◌then◌orelse◌}
 use Rattle.rules.specs.Numbers.{largest_stamp, in_range}
 use Rattle.rules.specs.Held.{held_formed}
 use Rattle.rules.specs.Pairs.{Lent, is_pair}
@@ -68,7 +68,7 @@ module _ (g : Lent) (f : MachineNumbers) where
   abbrev there : Option Resting → Bool
   there = rest_formed g f.last
 
-  if_given : (t : Bool) (o : Option Resting) → there (if t then o otherwise none) ≡ (t && there o)
+  if_given : (t : Bool) (o : Option Resting) → there (if t then o orelse none) ≡ (t && there o)
   if_given true o = refl
   if_given false o = refl
 
@@ -196,11 +196,11 @@ module _ (f : MachineNumbers) (x : Machine) where
       (λ z. by_test One (eqb f.thumb 1) (λ _. found (y Right) (e ∙ rw z)) (λ _. absent))
 
   -- what rests in a state, if the tests of its numbers are met
-  at_state : (t : Bool) (y : Resting) → (t ≡ true → resting_at f ≡ y) → One (if t then some y otherwise none)
+  at_state : (t : Bool) (y : Resting) → (t ≡ true → resting_at f ≡ y) → One (if t then some y orelse none)
   at_state true y r = found y (r refl)
   at_state false y r = absent
 
-  with_either : (t : Bool) (y : Thumb → Resting) → resting_at f ≡ y (thumb_at f.thumb) → One (if t then with_thumb f y otherwise none)
+  with_either : (t : Bool) (y : Thumb → Resting) → resting_at f ≡ y (thumb_at f.thumb) → One (if t then with_thumb f y orelse none)
   with_either true y r = either_thumb y r
   with_either false y r = absent
 

@@ -7,7 +7,7 @@ use mathlib.Core.Path.{◌≡◌, refl, ◌∙◌, ap, subst}
 use lib.Dec.{eqb}
 use native.Mathlib.Omega.{arith}
 use borrow.Author.Tests.{ltb-true, lt-ltb, eqb-true}
-use Rattle.choice.specs.Choice.{if◌then◌otherwise◌}
+use Rattle.choice.specs.Choice.{if◌then◌orelse◌}
 use Rattle.rules.specs.Numbers.{largest_stamp, in_range}
 use Rattle.rules.specs.Pairs.{Lent}
 use Rattle.rules.specs.Held.{held_formed}
@@ -313,7 +313,7 @@ module _ (f : MachineNumbers) where
   any_thumb y k =
       by_test AllFound (eqb f.thumb 0) (λ _. k Left) (λ _. by_test AllFound (eqb f.thumb 1) (λ _. k Right) (λ _. tt))
 
-  if_tested : (t : Bool) (o : Option Resting) → (t ≡ true → AllFound o) → AllFound (if t then o otherwise none)
+  if_tested : (t : Bool) (o : Option Resting) → (t ≡ true → AllFound o) → AllFound (if t then o orelse none)
   if_tested true o k = k refl
   if_tested false o k = tt
 

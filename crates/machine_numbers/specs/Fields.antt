@@ -3,7 +3,7 @@
 -- whether a machine is well formed is asked of the machine.
 use Rattle.std.specs.Prelude.{ℕ, Bool, ◌&&◌, ltb, eqb}
 use Rattle.std.proofs.Math.Option.{Option, none, some}
-use Rattle.choice.specs.Choice.{if◌then◌otherwise◌}
+use Rattle.choice.specs.Choice.{if◌then◌orelse◌}
 use Rattle.rules.specs.States.{at}
 use Rattle.rules.specs.declared.Stamp.{Stamp}
 use Rattle.rules.specs.declared.Key.{Key}
@@ -101,46 +101,46 @@ second_character f = record { 0 = f.second }
 -- what rests with O, if its number is 0 or 1
 abbrev pub with_thumb : MachineNumbers → (Thumb → Resting) → Option Resting
 with_thumb f x =
-    if eqb f.thumb 0 then some (x Left) otherwise
-    if eqb f.thumb 1 then some (x Right) otherwise none
+    if eqb f.thumb 0 then some (x Left) orelse
+    if eqb f.thumb 1 then some (x Right) orelse none
 
 -- what rests in each state, if what the state does not use is 0
 unfoldable pub as_S1 : MachineNumbers → Option Resting
-as_S1 f = if no_character f && no_second f && no_thumb f && no_release f then some S1 otherwise none
+as_S1 f = if no_character f && no_second f && no_thumb f && no_release f then some S1 orelse none
 
 unfoldable pub as_S2 : MachineNumbers → Option Resting
-as_S2 f = if no_second f && no_thumb f && no_release f then some (S2 (character f) f.m) otherwise none
+as_S2 f = if no_second f && no_thumb f && no_release f then some (S2 (character f) f.m) orelse none
 
 unfoldable pub as_S3 : MachineNumbers → Option Resting
-as_S3 f = if no_character f && no_second f && no_release f then with_thumb f (λ O. S3 O f.o) otherwise none
+as_S3 f = if no_character f && no_second f && no_release f then with_thumb f (λ O. S3 O f.o) orelse none
 
 unfoldable pub as_S4 : MachineNumbers → Option Resting
-as_S4 f = if no_second f && no_release f then with_thumb f (λ O. S4 (character f) f.m O f.o) otherwise none
+as_S4 f = if no_second f && no_release f then with_thumb f (λ O. S4 (character f) f.m O f.o) orelse none
 
 unfoldable pub as_S5 : MachineNumbers → Option Resting
-as_S5 f = if no_second f && no_release f then with_thumb f (λ O. S5 O f.o (character f) f.m) otherwise none
+as_S5 f = if no_second f && no_release f then with_thumb f (λ O. S5 O f.o (character f) f.m) orelse none
 
 unfoldable pub as_S6 : MachineNumbers → Option Resting
-as_S6 f = if no_second f then with_thumb f (λ O. S6 O f.o (character f) f.m f.r) otherwise none
+as_S6 f = if no_second f then with_thumb f (λ O. S6 O f.o (character f) f.m f.r) orelse none
 
 unfoldable pub as_S7 : MachineNumbers → Option Resting
 as_S7 f =
-    if no_thumb f && no_release f && second_fits f then some (S7 (character f) f.m (second_character f) f.k) otherwise none
+    if no_thumb f && no_release f && second_fits f then some (S7 (character f) f.m (second_character f) f.k) orelse none
 
 unfoldable pub as_S8 : MachineNumbers → Option Resting
-as_S8 f = if no_thumb f && second_fits f then some (S8 (character f) f.m (second_character f) f.k f.r) otherwise none
+as_S8 f = if no_thumb f && second_fits f then some (S8 (character f) f.m (second_character f) f.k f.r) orelse none
 
 -- a state is 1 to 8
 unfoldable pub resting_named : MachineNumbers → Option Resting
 resting_named f =
-    if eqb f.state 1 then as_S1 f otherwise
-    if eqb f.state 2 then as_S2 f otherwise
-    if eqb f.state 3 then as_S3 f otherwise
-    if eqb f.state 4 then as_S4 f otherwise
-    if eqb f.state 5 then as_S5 f otherwise
-    if eqb f.state 6 then as_S6 f otherwise
-    if eqb f.state 7 then as_S7 f otherwise
-    if eqb f.state 8 then as_S8 f otherwise none
+    if eqb f.state 1 then as_S1 f orelse
+    if eqb f.state 2 then as_S2 f orelse
+    if eqb f.state 3 then as_S3 f orelse
+    if eqb f.state 4 then as_S4 f orelse
+    if eqb f.state 5 then as_S5 f orelse
+    if eqb f.state 6 then as_S6 f orelse
+    if eqb f.state 7 then as_S7 f orelse
+    if eqb f.state 8 then as_S8 f orelse none
 
 abbrev pub settings_named : MachineNumbers → Settings
 settings_named f = record { t = f.t; j = f.j; l = f.l; solo = f.solo }

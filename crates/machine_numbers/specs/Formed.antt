@@ -2,7 +2,7 @@
 -- where they name one. The proof of that is in proofs/Forms.antt.
 use Rattle.std.specs.Prelude.{ℕ, ◌%◌, Bool, false, ◌&&◌, ◌≡◌, eqb}
 use Rattle.std.proofs.Math.Option.{Option, none, some}
-use Rattle.choice.specs.Choice.{if◌then◌otherwise◌}
+use Rattle.choice.specs.Choice.{if◌then◌orelse◌}
 use Rattle.rules.specs.Pairs.{Lent}
 use Rattle.rules.specs.States.{keys_below, stamps_by, in_order, pair_lent, well_formed}
 use Rattle.rules.specs.declared.Key.{Key}
@@ -30,7 +30,7 @@ rest_formed g last (some x) = keys_below x && (stamps_by last x && in_order x) &
 
 -- a thumb for any number
 unfoldable pub thumb_at : ℕ → Thumb
-thumb_at n = if eqb n 0 then Left otherwise Right
+thumb_at n = if eqb n 0 then Left orelse Right
 
 -- K for any number
 abbrev pub second_at : MachineNumbers → Key
@@ -39,13 +39,13 @@ second_at f = record { 0 = f.second % key_numbers }
 -- what rests, for any numbers
 unfoldable pub resting_at : MachineNumbers → Resting
 resting_at f =
-    if eqb f.state 2 then S2 (character f) f.m otherwise
-    if eqb f.state 3 then S3 (thumb_at f.thumb) f.o otherwise
-    if eqb f.state 4 then S4 (character f) f.m (thumb_at f.thumb) f.o otherwise
-    if eqb f.state 5 then S5 (thumb_at f.thumb) f.o (character f) f.m otherwise
-    if eqb f.state 6 then S6 (thumb_at f.thumb) f.o (character f) f.m f.r otherwise
-    if eqb f.state 7 then S7 (character f) f.m (second_at f) f.k otherwise
-    if eqb f.state 8 then S8 (character f) f.m (second_at f) f.k f.r otherwise S1
+    if eqb f.state 2 then S2 (character f) f.m orelse
+    if eqb f.state 3 then S3 (thumb_at f.thumb) f.o orelse
+    if eqb f.state 4 then S4 (character f) f.m (thumb_at f.thumb) f.o orelse
+    if eqb f.state 5 then S5 (thumb_at f.thumb) f.o (character f) f.m orelse
+    if eqb f.state 6 then S6 (thumb_at f.thumb) f.o (character f) f.m f.r orelse
+    if eqb f.state 7 then S7 (character f) f.m (second_at f) f.k orelse
+    if eqb f.state 8 then S8 (character f) f.m (second_at f) f.k f.r orelse S1
 
 -- a machine for any numbers
 unfoldable pub machine_at : MachineNumbers → Machine

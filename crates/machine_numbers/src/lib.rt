@@ -3,7 +3,7 @@
 
 ghost use Rattle.std.specs.Prelude.{◌≡◌, ◌&&◌, eqb, ltb};
 ghost use Rattle.std.proofs.Math.Option.{none, some};
-ghost use Rattle.choice.specs.Choice.{if◌then◌otherwise◌};
+ghost use Rattle.choice.specs.Choice.{if◌then◌orelse◌};
 ghost use Rattle.rules.specs.States.{at};
 ghost use Rattle.pairs.specs.Lent.{of_list};
 ghost use Rattle.machine_numbers.specs.Fields.{thumb_number, joined, in_numbers, no_character};
@@ -200,7 +200,7 @@ fn no_release(numbers: MachineNumbers) -> bool
 
 // A thumb's number: 0 is the left one, 1 the right one.
 fn with_thumb(number: u8, left: Resting, right: Resting) -> Found
-    ensures { found_as result ≡ (if eqb number 0 then some left otherwise (if eqb number 1 then some right otherwise none)) }
+    ensures { found_as result ≡ (if eqb number 0 then some left orelse (if eqb number 1 then some right orelse none)) }
 {
     match number {
         0 => Found::Some(left),

@@ -7,7 +7,7 @@ use mathlib.Core.Option.{Option, none, some}
 use mathlib.Core.Path.{◌≡◌, ap, ◌∙◌}
 use lib.Dec.{leb}
 use lib.ListN.{length}
-use Rattle.choice.specs.Choice.{if◌then◌otherwise◌}
+use Rattle.choice.specs.Choice.{if◌then◌orelse◌}
 use Rattle.choice.proofs.Choices.{by_test}
 use Rattle.mending.specs.Mending.{parts, copied_bytes, dropped_from, refusal, Mending, nothing, unless_refused, mend}
 use Rattle.mender.specs.Runs.{Mends}
@@ -19,7 +19,7 @@ mend_fits room log = go (refusal (parts log))
   where
     go : (o : Option ℕ)
         → length (unless_refused o (if leb (length (copied_bytes (parts log))) room then
-        record { number = 0; bytes = copied_bytes (parts log); dropped = dropped_from 0 (parts log) } otherwise nothing 8)).bytes ≤ room
+        record { number = 0; bytes = copied_bytes (parts log); dropped = dropped_from 0 (parts log) } orelse nothing 8)).bytes ≤ room
     go (some n) = omega arith
     go none =
         by_test (λ (x : Mending). length x.bytes ≤ room) (leb (length (copied_bytes (parts log))) room)

@@ -10,7 +10,7 @@ use mathlib.Core.Path.{◌≡◌, refl, sym, ap, ◌∙◌}
 use lib.Dec.{eqb, leb}
 use lib.ListN.{length, take, length-append}
 use lib.Seq.{take_at}
-use Rattle.choice.specs.Choice.{if◌then◌otherwise◌}
+use Rattle.choice.specs.Choice.{if◌then◌orelse◌}
 use Rattle.rules.specs.Pairs.{Lent, lent_good, no_pairs}
 use Rattle.rules.specs.States.{well_formed, opening}
 use Rattle.rules.specs.GivenBack.{input, Verdict, judge_input, judge, answer}
@@ -134,7 +134,7 @@ module _ (room : ℕ) where
 
   -- the end of a log leaves the offset as it was
   offset_at_end : (w : Place Reading) (o : Option ℕ) (t : Bool)
-      → (unless_refused w.state o (if t then refuse w.state 6 otherwise w.state)).offset ≡ w.state.offset
+      → (unless_refused w.state o (if t then refuse w.state 6 orelse w.state)).offset ≡ w.state.offset
   offset_at_end w (some n) t = refl
   offset_at_end w none t = both_ways (λ (y : Reading). y.offset ≡ w.state.offset) t refl refl
 

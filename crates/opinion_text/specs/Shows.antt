@@ -1,6 +1,6 @@
 -- What the functions of this crate do.
 use Rattle.std.specs.Prelude.{ℕ, ◌≤◌, Bool, ◌&&◌, List, ◌≡◌, leb, length}
-use Rattle.choice.specs.Choice.{if◌then◌otherwise◌}
+use Rattle.choice.specs.Choice.{if◌then◌orelse◌}
 use Rattle.filled.specs.Filled.{filled}
 use Rattle.log_opinions.specs.OfLog.{on_log}
 use Rattle.opinion_text.specs.Verdict.{opinion_text}
@@ -32,8 +32,8 @@ shown l = opinion_text (on_log l)
 
 -- The text stands at the run's front, and the rest is as it was; where nothing was read, the run is as it was.
 pub record Shows (l run : List ℕ) (answer : Shown) (after : List ℕ) : Type 0 where
-  pub answered : answer ≡ if fits l run then Text (length (shown l)) (on_log l).number (on_log l).offset otherwise Unread
-  pub written : after ≡ if fits l run then filled (shown l) run otherwise run
+  pub answered : answer ≡ if fits l run then Text (length (shown l)) (on_log l).number (on_log l).offset orelse Unread
+  pub written : after ≡ if fits l run then filled (shown l) run orelse run
 
 -- the text that is answered lies within a length
 abbrev pub Within : ℕ → Shown → Type 0

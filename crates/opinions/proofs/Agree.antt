@@ -7,7 +7,7 @@ use mathlib.Core.Option.{Option, none, some}
 use mathlib.Core.Path.{◌≡◌, refl, sym, ap, ◌∙◌}
 use lib.Dec.{eqb, ltb, leb}
 use lib.ListN.{length}
-use Rattle.choice.specs.Choice.{if◌then◌otherwise◌}
+use Rattle.choice.specs.Choice.{if◌then◌orelse◌}
 use Rattle.rules.specs.Pairs.{Lent, pair_of, in_some_pair, alone as alone_wait}
 use Rattle.rules.specs.States.{lag, deadline}
 use Rattle.rules.specs.OneEvent.{Done, ◌leaving◌, nothing, same_key, same_thumb, second_character_takes_thumb, second_thumb_takes_character}
@@ -186,7 +186,7 @@ module _ (t_s percent : ℕ) where
 
     met : (i : Input) (now : Stamp) (es : List Stroke) → Meeting i now es
         → Right s n (f (ahead M O (deadline g s x) (events es))) (run s x es)
-        → Right s n (f (if matters M O (event_of i now) then event_of i now ∷ events es otherwise ahead M O (deadline g s x) (events es)))
+        → Right s n (f (if matters M O (event_of i now) then event_of i now ∷ events es orelse ahead M O (deadline g s x) (events es)))
         (going (act g s now x i) (λ y. run s y es))
     met i now es (decides e r) h = rw e r
     met i now es (passes e a) h = rw (e, a) h

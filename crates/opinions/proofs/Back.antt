@@ -8,7 +8,7 @@ use mathlib.Core.Option.{Option, none, some, none-ne-some, some-injective}
 use mathlib.Core.Path.{◌≡◌, refl, sym, ap, ◌∙◌, subst}
 use lib.Dec.{eqb, ltb}
 use lib.ListN.{length, length-append}
-use Rattle.choice.specs.Choice.{if◌then◌otherwise◌}
+use Rattle.choice.specs.Choice.{if◌then◌orelse◌}
 use Rattle.rules.specs.Numbers.{keys, largest_stamp, in_range}
 use Rattle.rules.specs.Held.{is_held, held_below as keys_below, held_keys, how_many}
 use Rattle.rules.specs.Pairs.{Lent, lent_good, same_key}
@@ -75,7 +75,7 @@ module _ (kind : ℕ) (k : Key) (now : Stamp) where
 
   -- one kind after the other
   or_kind : (n : ℕ) {o p : Option Input} → Named n k now o → (eqb kind n ≡ false → Named kind k now p)
-      → Named kind k now (if eqb kind n then o otherwise p)
+      → Named kind k now (if eqb kind n then o orelse p)
   or_kind n {o} a b = by_test (Named kind k now) (eqb kind n) (λ h. subst (λ (x : ℕ). Named x k now o) (sym (eqb-true kind n h)) a) b
 
   named : Named kind k now (input kind k)
@@ -110,7 +110,7 @@ held_next : (e : Event) (before : List Event) (k : Key) → held_then e.kind e.k
 unfolding held same_key
 held_next e before k = rw (eqb_turned k.0 e.key.0) (go (eqb e.kind 1) (eqb e.kind 2) (eqb e.key.0 k.0))
   where
-    go : (a b c : Bool) → (if a && c then true otherwise if b && c then false otherwise held k before) ≡ (if (a || b) && c then a otherwise held k before)
+    go : (a b c : Bool) → (if a && c then true orelse if b && c then false orelse held k before) ≡ (if (a || b) && c then a orelse held k before)
     go true b true = refl
     go true true false = refl
     go true false false = refl
@@ -120,7 +120,7 @@ held_next e before k = rw (eqb_turned k.0 e.key.0) (go (eqb e.kind 1) (eqb e.kin
     go false false false = refl
 
 -- how many they are
-counted : (b : Bool) (k : Key) → length (if b then k ∷ [] otherwise []) ≡ (if b then 1 otherwise 0)
+counted : (b : Bool) (k : Key) → length (if b then k ∷ [] orelse []) ≡ (if b then 1 orelse 0)
 counted true k = refl
 counted false k = refl
 
@@ -147,8 +147,8 @@ knows_fresh g s r = record { formed = (sequence_facts g s r []).stays_well_forme
 module _ (g : Lent) (good : lent_good g ≡ true) (m : Machine) (before : List Event) (w : Knows g m before) (e : Event) where
   -- by three tests, in order
   number_by : (a b c : Bool) (i : Input)
-      → (answer g m e.stamp (if a then refused 4 otherwise if b then refused 5 otherwise if c then refused 11 otherwise accepted_as i)).number
-      ≡ (if a then 4 otherwise if b then 5 otherwise if c then 11 otherwise 0)
+      → (answer g m e.stamp (if a then refused 4 orelse if b then refused 5 orelse if c then refused 11 orelse accepted_as i)).number
+      ≡ (if a then 4 orelse if b then 5 orelse if c then 11 orelse 0)
   number_by true b c i = refl
   number_by false true c i = refl
   number_by false false true i = refl

@@ -2,7 +2,7 @@
 -- each number is put down as the opinion has it. Then keystrokes of its own. The proofs are in proofs/Examples.antt.
 use Rattle.std.specs.Prelude.{ℕ, List, [], ◌∷◌, ◌++◌, map, ◌≡◌, eqb}
 use Prim.Native.String.{String}
-use Rattle.choice.specs.Choice.{if◌then◌otherwise◌}
+use Rattle.choice.specs.Choice.{if◌then◌orelse◌}
 use Rattle.rules.specs.Numbers.{settings_of}
 use Rattle.rules.specs.LayoutFacts.{key}
 use Rattle.rules.specs.States.{at}
@@ -27,7 +27,7 @@ in_order (e ∷ before) = in_order before ++ (e ∷ [])
 abbrev pub opined_lines : Settings → List Event → ℕ → List Line → List Line
 opined_lines s before n [] = []
 opined_lines s before n (event e ∷ l) =
-    event e ∷ opined_lines s (if eqb (number_after before e) 0 then (e ∷ before) otherwise before) (number_after before e) l
+    event e ∷ opined_lines s (if eqb (number_after before e) 0 then (e ∷ before) orelse before) (number_after before e) l
 opined_lines s before n (text is ∷ l) = text (opinion s (in_order before)).items ∷ opined_lines s before n l
 opined_lines s before n (rests x ∷ l) = rests x ∷ opined_lines s before n l
 opined_lines s before n (sent q ∷ l) = sent q ∷ opined_lines s before n l

@@ -4,7 +4,7 @@
 -- found in 01, "One event".
 use Rattle.std.specs.Prelude.{ℕ, zero, suc, ◌+◌, ◌-◌, ◌*◌, min, Bool, false, ◌&&◌, ◌||◌, not, List, [], ◌∷◌, ◌++◌, eqb, ltb, leb, length}
 use Rattle.std.proofs.Math.Option.{Option, none, some}
-use Rattle.choice.specs.Choice.{if◌then◌otherwise◌}
+use Rattle.choice.specs.Choice.{if◌then◌orelse◌}
 use Rattle.rules.specs.{Numbers.{short_overlap_time, A, B, FJ, FL}, Sequences.{Press, press}}
 use Rattle.rules.specs.declared.{Stamp.{Stamp}, Thumb.{Thumb}, Settings.{Settings}, Item.{Item}, Event.{Event}}
 use Rattle.rules.specs.declared.{Thumb.TheVariants.{Left, Right}, Face.TheVariants.{Plain, With}, Item.TheVariants.{Character, Mark}}
@@ -32,7 +32,7 @@ late (some d) e = leb d.0 e.stamp.0
 -- Looking forward: the list from the first event on that is late, or matters.
 unfoldable pub ahead : Option Event → Option Event → Option Stamp → List Event → List Event
 ahead M O due [] = []
-ahead M O due (e ∷ es) = if late due e || matters M O e then e ∷ es otherwise ahead M O due es
+ahead M O due (e ∷ es) = if late due e || matters M O e then e ∷ es orelse ahead M O due es
 
 -- an event of a kind comes in time
 abbrev pub in_time : ℕ → Option Stamp → Event → Bool
@@ -65,7 +65,7 @@ waits M = over [] (press M.key M.stamp ∷ [])
 
 -- which thumb: 0 is the left one
 abbrev pub which : Event → Thumb
-which O = if eqb O.key.0 0 then Left otherwise Right
+which O = if eqb O.key.0 0 then Left orelse Right
 
 abbrev pub alone : Event → List Item
 alone M = Character M.key Plain ∷ []
@@ -75,13 +75,13 @@ together M O = Character M.key (With (which O)) ∷ []
 
 module _ (s : Settings) where
   abbrev pub mark : Event → List Item
-  mark O = if eqb s.solo 1 then Mark (which O) ∷ [] otherwise []
+  mark O = if eqb s.solo 1 then Mark (which O) ∷ [] orelse []
 
   -- S6, the thumb was released at R. In time a press or M up: M with O. Late, or the function key: they were two.
   abbrev pub released : Event → Event → Option Stamp → List Event → Decision
   released O M due [] = waits M
   released O M due (e ∷ es) =
-      if late due e || is 5 e then on (mark O ++ alone M) free (e ∷ es) otherwise on (together M O) free (e ∷ es)
+      if late due e || is 5 e then on (mark O ++ alone M) free (e ∷ es) orelse on (together M O) free (e ∷ es)
 
   abbrev pub from_released : Event → Event → Event → List Event → Decision
   from_released O M R es = let due = due_after R (gap M R) in released O M due (ahead (some M) none due es)
@@ -91,8 +91,8 @@ module _ (s : Settings) where
   abbrev pub letter_first : Event → Event → Option Stamp → List Event → Decision
   letter_first M O due [] = waits M
   letter_first M O due (e ∷ es) =
-      if in_time 1 due e && ltb (gap O e) (gap M O) then on (alone M) (given O) (e ∷ es) otherwise
-      if in_time 2 due e && short s.j (gap M O) (gap O e) then on (alone M) (thumb O) es otherwise
+      if in_time 1 due e && ltb (gap O e) (gap M O) then on (alone M) (given O) (e ∷ es) orelse
+      if in_time 2 due e && short s.j (gap M O) (gap O e) then on (alone M) (thumb O) es orelse
       on (together M O) free (e ∷ es)
 
   abbrev pub from_letter_first : Event → Event → List Event → Decision
@@ -103,8 +103,8 @@ module _ (s : Settings) where
   abbrev pub thumb_first : Event → Event → Option Stamp → List Event → Decision
   thumb_first O M due [] = waits M
   thumb_first O M due (e ∷ es) =
-      if in_time 3 due e && leb (gap M e) (gap O M) then after (mark O) (from_letter_first M e es) otherwise
-      if in_time 4 due e && short s.l (gap O M) (gap M e) then from_released O M e es otherwise
+      if in_time 3 due e && leb (gap M e) (gap O M) then after (mark O) (from_letter_first M e es) orelse
+      if in_time 4 due e && short s.l (gap O M) (gap M e) then from_released O M e es orelse
       on (together M O) free (e ∷ es)
 
   abbrev pub from_thumb_first : Event → Event → List Event → Decision
@@ -113,7 +113,7 @@ module _ (s : Settings) where
   -- S2, a letter, and no thumb set. In time a thumb: they are looked at together. Else M alone.
   abbrev pub letter_alone : Event → Option Stamp → List Event → Decision
   letter_alone M due [] = waits M
-  letter_alone M due (e ∷ es) = if in_time 3 due e then from_letter_first M e es otherwise on (alone M) free (e ∷ es)
+  letter_alone M due (e ∷ es) = if in_time 3 due e then from_letter_first M e es orelse on (alone M) free (e ∷ es)
 
   abbrev pub from_letter : Event → List Event → Decision
   from_letter M es = let due = due_after M (A s) in letter_alone M due (ahead (some M) none due es)
@@ -121,14 +121,14 @@ module _ (s : Settings) where
   -- S3, a thumb set. In time a letter: they are looked at together. Else a mark.
   abbrev pub thumb_alone : Event → Option Stamp → List Event → Decision
   thumb_alone O due [] = over [] []
-  thumb_alone O due (e ∷ es) = if in_time 1 due e then from_thumb_first O e es otherwise on (mark O) free (e ∷ es)
+  thumb_alone O due (e ∷ es) = if in_time 1 due e then from_thumb_first O e es orelse on (mark O) free (e ∷ es)
 
   -- From a place. S1, nothing set: a letter, a thumb, or one event further. A lone thumb has a deadline only if a mark is wanted, and a
   -- thumb that was given to the letter at this place is not asked for it.
   abbrev pub decide : Set → List Event → Decision
   decide free [] = over [] []
-  decide free (e ∷ es) = if is 1 e then from_letter e es otherwise if is 3 e then on [] (thumb e) es otherwise on [] free es
-  decide (thumb O) es = let due = if eqb s.solo 1 then due_after O (B s) otherwise none in thumb_alone O due (ahead none (some O) due es)
+  decide free (e ∷ es) = if is 1 e then from_letter e es orelse if is 3 e then on [] (thumb e) es orelse on [] free es
+  decide (thumb O) es = let due = if eqb s.solo 1 then due_after O (B s) orelse none in thumb_alone O due (ahead none (some O) due es)
   decide (given O) [] = over [] []
   decide (given O) (M ∷ es) = from_thumb_first O M es
 

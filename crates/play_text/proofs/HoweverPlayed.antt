@@ -8,7 +8,7 @@ use mathlib.Core.Logic.{◌≢◌}
 use mathlib.Core.Option.{Option, none, some}
 use mathlib.Core.Path.{◌≡◌, refl, sym, ap, ◌∙◌}
 use lib.ListN.{length}
-use Rattle.choice.specs.Choice.{if◌then◌otherwise◌}
+use Rattle.choice.specs.Choice.{if◌then◌orelse◌}
 use Rattle.choice.proofs.Choices.{both_ways}
 use Rattle.text.specs.Text.{text}
 use Rattle.text.proofs.Signs.{text_append}
@@ -85,7 +85,7 @@ end_eight r h = by_told r.told refl
     by_told : (f : Option ℕ) → r.told ≡ f
         → number_of
         (unless_told r f
-        (record { reader = tell r (if is_cut r.desk r.pending then 6 otherwise 0) r.offset; words = [] })).reader.told
+        (record { reader = tell r (if is_cut r.desk r.pending then 6 orelse 0) r.offset; words = [] })).reader.told
         ≢ 8
     by_told none e = both_ways (λ (k : ℕ). k ≢ 8) (is_cut r.desk r.pending) (λ z. omega arith) (λ z. omega arith)
     by_told (some k) e = λ z. h (e ∙ ap some (ap number_of (sym e) ∙ z))

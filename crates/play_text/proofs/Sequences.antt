@@ -10,7 +10,7 @@ use mathlib.Core.Option.{Option, none, some, none-ne-some}
 use mathlib.Core.Path.{◌≡◌, refl, sym, ap, ◌∙◌}
 use lib.Dec.{ltb}
 use lib.ListN.{length, length-append}
-use Rattle.choice.specs.Choice.{if◌then◌otherwise◌}
+use Rattle.choice.specs.Choice.{if◌then◌orelse◌}
 use Rattle.choice.proofs.Choices.{by_test}
 use Rattle.keylog.specs.Walk.{walk}
 use Rattle.keylog.specs.Reader.{read_record, number_of}
@@ -63,7 +63,7 @@ told_apart n r bytes short s = by_told r.told refl
         → Apart (n + length bytes)
         (unless_told r f
         (if ltb longest_log (so_far r + length bytes) then record { reader = tell r 9 longest_log; words = [] }
-        otherwise walked r (walk (read_record word_room) (place r) bytes))).reader.told
+        orelse walked r (walk (read_record word_room) (place r) bytes))).reader.told
     by_told none e =
         by_test (λ (g : Given). Apart (n + length bytes) g.reader.told) (ltb longest_log (so_far r + length bytes))
         (λ past. by_nine (ltb-true longest_log (so_far r + length bytes) past) (s.bytes e))

@@ -1,6 +1,6 @@
 -- What the answers of this crate say: the signs, and what is sent, as lists.
 use Rattle.std.specs.Prelude.{ℕ, suc, List, [], ◌∷◌, ◌++◌, ◌≡◌, eqb, get_or, replicate}
-use Rattle.choice.specs.Choice.{if◌then◌otherwise◌}
+use Rattle.choice.specs.Choice.{if◌then◌orelse◌}
 use Rattle.rules.specs.ZeroDelay.{sign_unless_0, Sending, backspace, sign, send}
 use Rattle.rules.specs.Sequences.{signs_among}
 use Rattle.preview.specs.declared.Signs.{Signs}
@@ -26,7 +26,7 @@ pub record Holds (q : Signs) (l : List ℕ) : Type 0 where
 
 -- a word in front of up to three signs
 unfoldable pub put_before : ℕ → Signs → Signs
-put_before w q = if eqb w 0 then q otherwise record { first = w; second = q.first; third = q.second; fourth = q.third }
+put_before w q = if eqb w 0 then q orelse record { first = w; second = q.first; third = q.second; fourth = q.third }
 
 -- the signs behind the first
 abbrev pub behind_first : Signs → Signs

@@ -5,7 +5,7 @@ use mathlib.Core.Bool.{Bool, true, false, ◌&&◌, and-eq-true_iff}
 use mathlib.Core.Option.{some, some-injective}
 use mathlib.Core.Path.{◌≡◌, refl, sym, ap, ◌∙◌}
 use borrow.Author.Tests.{leb-true}
-use Rattle.choice.specs.Choice.{if◌then◌otherwise◌}
+use Rattle.choice.specs.Choice.{if◌then◌orelse◌}
 use Rattle.rules.specs.Numbers.{largest_stamp, in_range}
 use Rattle.rules.specs.Held.{held_formed}
 use Rattle.rules.specs.Pairs.{Lent, lent_good}
@@ -36,7 +36,7 @@ was_taken : (g : Lent) (m : Machine) (e : Event) → (step g m e).number ≡ 0 �
 unfolding step step_with
 was_taken g m e = go (lent_good g) refl
   where
-    go : (b : Bool) → lent_good g ≡ b → (if b then answer g m e.stamp (judge g m e) otherwise refusal m 12).number ≡ 0 → Taken g m e
+    go : (b : Bool) → lent_good g ≡ b → (if b then answer g m e.stamp (judge g m e) orelse refusal m 12).number ≡ 0 → Taken g m e
     go true good =
         judge_cases (λ v. judge g m e ≡ v → (answer g m e.stamp v).number ≡ 0 → Taken g m e) g m e good
         (λ n z _ h. not_0 n z h)

@@ -2,7 +2,7 @@
 use mathlib.Core.Bool.{Bool, true, false}
 use mathlib.Core.List.{List, [], ◌∷◌, ◌++◌, map}
 use mathlib.Core.Path.{◌≡◌, refl, ap, ◌∙◌}
-use Rattle.choice.specs.Choice.{if◌then◌otherwise◌}
+use Rattle.choice.specs.Choice.{if◌then◌orelse◌}
 use Rattle.rules.specs.Pairs.{Lent, lent_good}
 use Rattle.rules.specs.States.{deadline, fresh}
 use Rattle.rules.specs.OneEvent.{Done, late as late_line, act, due_by, one_event, and_then}
@@ -34,8 +34,8 @@ pub same_items : (g : Lent) (m : Machine) (e : Event) → SameItems g m e
 unfolding step_reasons step step_with
 same_items g m e = go (lent_good g)
   where
-    go : (t : Bool) → map item_of (if t then reasoned_if g m e.stamp (judge g m e) otherwise [])
-        ≡ (if t then answer g m e.stamp (judge g m e) otherwise refusal m 12).items
+    go : (t : Bool) → map item_of (if t then reasoned_if g m e.stamp (judge g m e) orelse [])
+        ≡ (if t then answer g m e.stamp (judge g m e) orelse refusal m 12).items
     go true = items_if g m e.stamp (judge g m e)
     go false = refl
 
@@ -75,6 +75,6 @@ no_tick g s now (S8 M m K k r) = refl
 pub true_cause : (g : Lent) (s : Settings) (now : Stamp) (x : Resting) (i : Input) → TrueCause g s now x i
 true_cause g s now x i = record { commits_it = go (due_by now (deadline g s x)) refl; not_by_tick = no_tick g s now x }
   where
-    go : (t : Bool) → due_by now (deadline g s x) ≡ t → (one_event g s now x i).items ≡ commits g s now x (if t then late otherwise by i)
+    go : (t : Bool) → due_by now (deadline g s x) ≡ t → (one_event g s now x i).items ≡ commits g s now x (if t then late orelse by i)
     go true h = ap (λ (d : Done). d.items) (when_late g s now x i h ∙ late_and_event g s now x i)
     go false h = ap (λ (d : Done). d.items) (when_in_time g s now x i h)

@@ -8,7 +8,7 @@ use mathlib.Core.Option.{Option, none, some, none-ne-some, some-injective}
 use mathlib.Core.Path.{◌≡◌, refl, sym, ap, subst, ◌∙◌}
 use lib.Dec.{leb}
 use borrow.Author.Tests.{leb-true, leb-false, le-leb, lt-leb}
-use Rattle.choice.specs.Choice.{if◌then◌otherwise◌}
+use Rattle.choice.specs.Choice.{if◌then◌orelse◌}
 use Rattle.rules.specs.States.{at, lag, later, at_or_before}
 use Rattle.rules.specs.Pairs.{Lent}
 use Rattle.rules.specs.OneEvent.{Done}
@@ -52,7 +52,7 @@ next_is now [] o v e = absurd (none-ne-some _ e)
 next_is now (w ∷ vs) o v e = go (next_is now vs (tail w vs o) v) (leb w.0 now.0) refl e
   where
     go : (next_turn now vs ≡ some v → Next now vs v) → (b : Bool) → leb w.0 now.0 ≡ b
-        → (if b then next_turn now vs otherwise some w) ≡ some v → Next now (w ∷ vs) v
+        → (if b then next_turn now vs orelse some w) ≡ some v → Next now (w ∷ vs) v
     go then_is true h e =
         let n = then_is e in
         let by_now : w.0 ≤ now.0 = leb-true w.0 now.0 h in
@@ -75,7 +75,7 @@ no_next now [] e t f = refl
 no_next now (w ∷ vs) e t f = go (λ h. no_next now vs h t f) (leb w.0 now.0) refl e
   where
     go : (next_turn now vs ≡ none → passed t vs ≡ passed now vs) → (b : Bool) → leb w.0 now.0 ≡ b
-        → (if b then next_turn now vs otherwise some w) ≡ none → passed t (w ∷ vs) ≡ passed now (w ∷ vs)
+        → (if b then next_turn now vs orelse some w) ≡ none → passed t (w ∷ vs) ≡ passed now (w ∷ vs)
     go rest true h e =
         let by_now : w.0 ≤ now.0 = leb-true w.0 now.0 h in
         passes t w vs (omega arith) ∙ ap suc (rest e) ∙ sym (passes now w vs by_now)
@@ -96,7 +96,7 @@ no_last now (w ∷ vs) o e t f = go (leb w.0 now.0) refl e
     not_none none e = none-ne-some _ (sym e)
     not_none (some u) e = none-ne-some _ (sym e)
 
-    go : (b : Bool) → leb w.0 now.0 ≡ b → (if b then or_else w (last_turn now vs) otherwise none) ≡ none
+    go : (b : Bool) → leb w.0 now.0 ≡ b → (if b then or_else w (last_turn now vs) orelse none) ≡ none
         → passed t (w ∷ vs) ≡ passed now (w ∷ vs)
     go true h e = absurd (not_none (last_turn now vs) e)
     go false h e =
@@ -130,7 +130,7 @@ last_is now (w ∷ vs) o v e = go (last_is now vs (tail w vs o) v) (leb w.0 now.
         }
 
     go : (last_turn now vs ≡ some v → Last now vs v) → (b : Bool) → leb w.0 now.0 ≡ b
-        → (if b then or_else w (last_turn now vs) otherwise none) ≡ some v → Last now (w ∷ vs) v
+        → (if b then or_else w (last_turn now vs) orelse none) ≡ some v → Last now (w ∷ vs) v
     go rest true h e = on_last rest (leb-true w.0 now.0 h) (last_turn now vs) refl e
     go rest false h e = absurd (none-ne-some _ e)
 

@@ -7,7 +7,7 @@ use mathlib.Core.Logic.{◌≢◌}
 use mathlib.Core.Path.{◌≡◌, refl, sym, ap, ◌∙◌}
 use lib.Dec.{leb, eqb}
 use borrow.Author.Tests.{leb-true, leb-false, eq-eqb}
-use Rattle.choice.specs.Choice.{if◌then◌otherwise◌}
+use Rattle.choice.specs.Choice.{if◌then◌orelse◌}
 use Rattle.rules.specs.States.{at_or_before}
 use Rattle.rules.specs.OneEvent.{Done}
 use Rattle.rules.specs.declared.Stamp.{Stamp}
@@ -61,7 +61,7 @@ module _ (from : Stamp) (decides : Stamp → Done) where
       }
     where
       side : Bool → Done
-      side b = if b then q otherwise p
+      side b = if b then q orelse p
 
       by_side : (t : Stamp) → from.0 ≤ t.0 → decides t ≡ side (at_or_before v t)
       by_side t i = go (leb v.0 t.0) refl
@@ -70,13 +70,13 @@ module _ (from : Stamp) (decides : Stamp → Done) where
           go true h = behind t i (leb-true _ _ h)
           go false h = before t i (leb-false _ _ h)
 
-      same : (b c : Bool) → (if b then 1 otherwise 0) + 0 ≡ (if c then 1 otherwise 0) + 0 → side b ≡ side c
+      same : (b c : Bool) → (if b then 1 orelse 0) + 0 ≡ (if c then 1 orelse 0) + 0 → side b ≡ side c
       same true true e = refl
       same true false e = absurd (omega arith)
       same false true e = absurd (omega arith)
       same false false e = refl
 
-      other : (b c : Bool) → (if c then 1 otherwise 0) + 0 ≡ suc ((if b then 1 otherwise 0) + 0) → side b ≡ side c → ⊥
+      other : (b c : Bool) → (if c then 1 orelse 0) + 0 ≡ suc ((if b then 1 orelse 0) + 0) → side b ≡ side c → ⊥
       other true true e f = absurd (omega arith)
       other true false e f = absurd (omega arith)
       other false true e f = differ f
@@ -103,7 +103,7 @@ module _ (from : Stamp) (decides : Stamp → Done) where
       by_side t i = go (leb v.0 t.0) (leb d.0 t.0) refl refl
         where
           go : (b c : Bool) → leb v.0 t.0 ≡ b → leb d.0 t.0 ≡ c
-              → decides t ≡ side ((if b then 1 otherwise 0) + ((if c then 1 otherwise 0) + 0))
+              → decides t ≡ side ((if b then 1 orelse 0) + ((if c then 1 orelse 0) + 0))
           go true true h k = behind t i (leb-true _ _ k)
           go true false h k = between t i (leb-true _ _ h) (leb-false _ _ k)
           go false true h k = absurd (omega (arith, leb-true d.0 t.0 k, leb-false v.0 t.0 h))
@@ -112,7 +112,7 @@ module _ (from : Stamp) (decides : Stamp → Done) where
       at_most_two : (t : Stamp) → passed t (v ∷ d ∷ []) ≤ 2
       at_most_two t = go (leb v.0 t.0) (leb d.0 t.0)
         where
-          go : (b c : Bool) → (if b then 1 otherwise 0) + ((if c then 1 otherwise 0) + 0) ≤ 2
+          go : (b c : Bool) → (if b then 1 orelse 0) + ((if c then 1 orelse 0) + 0) ≤ 2
           go true true = omega arith
           go true false = omega arith
           go false true = omega arith

@@ -10,7 +10,7 @@ use mathlib.Core.Option.{none, some}
 use mathlib.Core.Path.{◌≡◌, refl, ap, ◌∙◌}
 use lib.Dec.{ltb, leb, eqb}
 use borrow.Author.Tests.{le-leb, lt-leb, leb-true, leb-false, ltb-true, ltb-false}
-use Rattle.choice.specs.Choice.{if◌then◌otherwise◌}
+use Rattle.choice.specs.Choice.{if◌then◌orelse◌}
 use Rattle.rules.specs.Numbers.{short_overlap_time, B}
 use Rattle.rules.specs.Pairs.{Lent, is_pair, same_key, GN}
 use Rattle.rules.specs.States.{at, lag, later, deadline}
@@ -125,10 +125,10 @@ module _ (g : Lent) (s : Settings) (x : Resting) (i : Input) where
         → ((t : Stamp) → v.0 ≤ t.0 → decision (act g s t x i) ≡ q)
         → p ≢ q → q ≢ overdue g s x i
         → (d.0 ≤ v.0 → Turns (since x) late-only (decided g s x i))
-        → Turns (since x) (if ltb v.0 d.0 then v ∷ d ∷ [] otherwise late-only) (decided g s x i)
+        → Turns (since x) (if ltb v.0 d.0 then v ∷ d ∷ [] orelse late-only) (decided g s x i)
     by_both v p q late-only before between differ differ-then otherwise = go (ltb v.0 d.0) refl
       where
-        go : (b : Bool) → ltb v.0 d.0 ≡ b → Turns (since x) (if b then v ∷ d ∷ [] otherwise late-only) (decided g s x i)
+        go : (b : Bool) → ltb v.0 d.0 ≡ b → Turns (since x) (if b then v ∷ d ∷ [] orelse late-only) (decided g s x i)
         go false h = otherwise (ltb-false v.0 d.0 h)
         go true h =
             let sooner : v.0 < d.0 = ltb-true v.0 d.0 h in
@@ -140,7 +140,7 @@ module _ (g : Lent) (s : Settings) (x : Resting) (i : Input) where
 
 -- by the outcome of a test that the turning stamps ask
 by_cases : {from : Stamp} {a b : List Stamp} {f : Stamp → Done} (t : Bool) → (t ≡ true → Turns from a f) → (t ≡ false → Turns from b f)
-    → Turns from (if t then a otherwise b) f
+    → Turns from (if t then a orelse b) f
 by_cases {from} {a} {b} {f} t h k = by_test (λ (l : List Stamp). Turns from l f) t h k
 
 module _ (g : Lent) (s : Settings) where
@@ -207,7 +207,7 @@ module _ (g : Lent) (s : Settings) where
     turns_S3 i = go (eqb s.solo 1) refl
       where
         go : (b : Bool) → eqb s.solo 1 ≡ b
-            → Turns o (turns_in g s (if b then some (later o (B s)) otherwise none) (S3 O o) i) (decided g s (S3 O o) i)
+            → Turns o (turns_in g s (if b then some (later o (B s)) orelse none) (S3 O o) i) (decided g s (S3 O o) i)
         go true h = turns_S3_marked i (later o (B s)) h (rw h)
         go false h = turns_S3_unmarked i (rw h)
 
@@ -359,7 +359,7 @@ module _ (g : Lent) (s : Settings) where
     turns_S8 (CharacterDown N) = third_letter (is_pair g.pairs K N) refl
       where
         third_letter : (b : Bool) → is_pair g.pairs K N ≡ b
-            → Turns r-up (at_and_late (parts_before m k) (some d_S8) (if b then d_S8 ∷ [] otherwise [])) (decided g s S8_rests (CharacterDown N))
+            → Turns r-up (at_and_late (parts_before m k) (some d_S8) (if b then d_S8 ∷ [] orelse [])) (decided g s S8_rests (CharacterDown N))
         third_letter true h =
             by_both g s S8_rests (CharacterDown N) d_S8 refl (parts_before m k) (plain M leaving S7 K (at 0) N (at 0))
             (together g M K leaving S2 N (at 0)) (d_S8 ∷ [])

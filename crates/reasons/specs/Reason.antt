@@ -3,7 +3,7 @@
 -- document 01: no rule is said again here. The laws are in ReasonFacts.antt.
 use Rattle.std.specs.Prelude.{ℕ, ◌-◌, Bool, true, List, [], map, ℤ}
 use Rattle.std.proofs.Math.Option.{Option, none, some}
-use Rattle.choice.specs.Choice.{if◌then◌otherwise◌}
+use Rattle.choice.specs.Choice.{if◌then◌orelse◌}
 use Rattle.rules.specs.Pairs.{Lent, lent_good}
 use Rattle.rules.specs.States.{at, lag, deadline, at_or_before, fresh}
 use Rattle.rules.specs.OneEvent.{Done, same_key, same_thumb, due_by, one_event}
@@ -59,7 +59,7 @@ comes_out (overlaps_of percent b c) = short_of percent b c
 -- what the line of an event compares: S4, a=o-m, b=now-o
 abbrev pub compared_in_S4 : Settings → Stamp → Key → Stamp → Stamp → Input → Test
 compared_in_S4 s now M m o (CharacterDown N) = takes_thumb (lag m o) (lag o now)
-compared_in_S4 s now M m o (CharacterUp N) = if same_key N M then overlaps s.j (lag m o) (lag o now) otherwise nothing_compared
+compared_in_S4 s now M m o (CharacterUp N) = if same_key N M then overlaps s.j (lag m o) (lag o now) orelse nothing_compared
 compared_in_S4 s now M m o (ThumbDown P) = nothing_compared
 compared_in_S4 s now M m o (ThumbUp P) = nothing_compared
 compared_in_S4 s now M m o FunctionDown = nothing_compared
@@ -69,8 +69,8 @@ compared_in_S4 s now M m o Tick = nothing_compared
 abbrev pub compared_in_S5 : Settings → Stamp → Thumb → Stamp → Stamp → Input → Test
 compared_in_S5 s now O o m (CharacterDown N) = nothing_compared
 compared_in_S5 s now O o m (CharacterUp N) = nothing_compared
-compared_in_S5 s now O o m (ThumbDown P) = if same_thumb P O then nothing_compared otherwise takes_character (lag o m) (lag m now)
-compared_in_S5 s now O o m (ThumbUp P) = if same_thumb P O then overlaps s.l (lag o m) (lag m now) otherwise nothing_compared
+compared_in_S5 s now O o m (ThumbDown P) = if same_thumb P O then nothing_compared orelse takes_character (lag o m) (lag m now)
+compared_in_S5 s now O o m (ThumbUp P) = if same_thumb P O then overlaps s.l (lag o m) (lag m now) orelse nothing_compared
 compared_in_S5 s now O o m FunctionDown = nothing_compared
 compared_in_S5 s now O o m Tick = nothing_compared
 
@@ -78,7 +78,7 @@ compared_in_S5 s now O o m Tick = nothing_compared
 abbrev pub compared_in_S7 : Lent → Stamp → Key → Stamp → Stamp → Input → Test
 compared_in_S7 g now M m k (CharacterDown N) = stays (lag m k) (lag k now)
 compared_in_S7 g now M m k (CharacterUp N) =
-    if same_key N M then overlaps_as_pair g.n g.t_s (lag m k) (lag k now) otherwise nothing_compared
+    if same_key N M then overlaps_as_pair g.n g.t_s (lag m k) (lag k now) orelse nothing_compared
 compared_in_S7 g now M m k (ThumbDown P) = stays (lag m k) (lag k now)
 compared_in_S7 g now M m k (ThumbUp P) = nothing_compared
 compared_in_S7 g now M m k FunctionDown = nothing_compared
@@ -87,7 +87,7 @@ compared_in_S7 g now M m k Tick = nothing_compared
 -- S8, the same; K up: b=r-k, c=now-k
 abbrev pub compared_in_S8 : Settings → Stamp → Stamp → Key → Stamp → Stamp → Input → Test
 compared_in_S8 s now m K k r (CharacterDown N) = stays (lag m k) (lag k now)
-compared_in_S8 s now m K k r (CharacterUp N) = if same_key N K then overlaps_of s.l (lag k r) (lag k now) otherwise nothing_compared
+compared_in_S8 s now m K k r (CharacterUp N) = if same_key N K then overlaps_of s.l (lag k r) (lag k now) orelse nothing_compared
 compared_in_S8 s now m K k r (ThumbDown P) = stays (lag m k) (lag k now)
 compared_in_S8 s now m K k r (ThumbUp P) = nothing_compared
 compared_in_S8 s now m K k r FunctionDown = nothing_compared
@@ -108,7 +108,7 @@ compared g s now (S8 M m K k r) i = compared_in_S8 s now m K k r i
 -- unless that is before the state began.
 abbrev pub sooner_at : Stamp → Option Stamp → Option Stamp
 sooner_at began none = none
-sooner_at began (some v) = if at_or_before v began then none otherwise some (at (v.0 - 1))
+sooner_at began (some v) = if at_or_before v began then none orelse some (at (v.0 - 1))
 
 -- What would have been, had the event come so many milliseconds sooner, or later: another decision.
 pub record Otherwise : Type 0 where
@@ -143,8 +143,8 @@ reason g s now x i =
     let is_late = due_by now (deadline g s x) in
     record {
       before = x;
-      cause = if is_late then late otherwise by i;
-      test = if is_late then nothing_compared otherwise compared g s now x i;
+      cause = if is_late then late orelse by i;
+      test = if is_late then nothing_compared orelse compared g s now x i;
       due = distance_to now (deadline g s x);
       sooner = if_sooner g s x i now (sooner_at (since x) (last_turn now (turnings g s x i)));
       later = if_later g s x i now (next_turn now (turnings g s x i));
@@ -169,7 +169,7 @@ reasoned_if g m now (accepted i) = reasoned g m.settings now m.resting i
 
 -- of one step; of a list that is not accepted nothing is committed
 unfoldable pub step_reasons : Lent → Machine → Event → List Reasoned
-step_reasons g m e = if lent_good g then reasoned_if g m e.stamp (judge g m e) otherwise []
+step_reasons g m e = if lent_good g then reasoned_if g m e.stamp (judge g m e) orelse []
 
 abbrev pub reasons_in : Lent → Machine → Event → Answer → List Reasoned
 reasons_in g m e r = step_reasons g m e

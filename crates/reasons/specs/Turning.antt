@@ -4,7 +4,7 @@
 -- S8. N is the new character key, P the thumb of the event, g what is lent.
 use Rattle.std.specs.Prelude.{ℕ, ◌+◌, ◌-◌, ◌*◌, ◌/◌, min, List, [], ◌∷◌, ltb}
 use Rattle.std.proofs.Math.Option.{Option, none, some}
-use Rattle.choice.specs.Choice.{if◌then◌otherwise◌}
+use Rattle.choice.specs.Choice.{if◌then◌orelse◌}
 use Rattle.rules.specs.Numbers.{short_overlap_time, up}
 use Rattle.rules.specs.Pairs.{Pair, Lent, is_pair}
 use Rattle.rules.specs.States.{at, lag, later, deadline, at_or_before}
@@ -66,8 +66,8 @@ at_or_late v (some d) = at (min v.0 d.0) ∷ []
 -- S2: M up, a function key and a character that makes no pair with M commit M, as the line "late" does: no stamp turns that. Else the
 -- deadline does.
 abbrev pub turns_in_S2 : List Pair → Option Stamp → Key → Input → List Stamp
-turns_in_S2 l d M (CharacterDown N) = if is_pair l M N then at_deadline d otherwise never
-turns_in_S2 l d M (CharacterUp N) = if same_key N M then never otherwise at_deadline d
+turns_in_S2 l d M (CharacterDown N) = if is_pair l M N then at_deadline d orelse never
+turns_in_S2 l d M (CharacterUp N) = if same_key N M then never orelse at_deadline d
 turns_in_S2 l d M (ThumbDown P) = at_deadline d
 turns_in_S2 l d M (ThumbUp P) = at_deadline d
 turns_in_S2 l d M FunctionDown = never
@@ -77,8 +77,8 @@ turns_in_S2 l d M Tick = at_deadline d
 abbrev pub turns_in_S3 : Option Stamp → Thumb → Input → List Stamp
 turns_in_S3 d O (CharacterDown N) = at_deadline d
 turns_in_S3 d O (CharacterUp N) = at_deadline d
-turns_in_S3 d O (ThumbDown P) = if same_thumb P O then at_deadline d otherwise never
-turns_in_S3 d O (ThumbUp P) = if same_thumb P O then never otherwise at_deadline d
+turns_in_S3 d O (ThumbDown P) = if same_thumb P O then at_deadline d orelse never
+turns_in_S3 d O (ThumbUp P) = if same_thumb P O then never orelse at_deadline d
 turns_in_S3 d O FunctionDown = never
 turns_in_S3 d O Tick = at_deadline d
 
@@ -86,9 +86,9 @@ turns_in_S3 d O Tick = at_deadline d
 -- as the line "late" does.
 abbrev pub turns_in_S4 : Option Stamp → Stamp → Stamp → Key → Thumb → Input → List Stamp
 turns_in_S4 d v w M O (CharacterDown N) = at_or_late v d
-turns_in_S4 d v w M O (CharacterUp N) = if same_key N M then at_or_late w d otherwise at_deadline d
-turns_in_S4 d v w M O (ThumbDown P) = if same_thumb P O then at_deadline d otherwise never
-turns_in_S4 d v w M O (ThumbUp P) = if same_thumb P O then never otherwise at_deadline d
+turns_in_S4 d v w M O (CharacterUp N) = if same_key N M then at_or_late w d orelse at_deadline d
+turns_in_S4 d v w M O (ThumbDown P) = if same_thumb P O then at_deadline d orelse never
+turns_in_S4 d v w M O (ThumbUp P) = if same_thumb P O then never orelse at_deadline d
 turns_in_S4 d v w M O FunctionDown = never
 turns_in_S4 d v w M O Tick = at_deadline d
 
@@ -96,9 +96,9 @@ turns_in_S4 d v w M O Tick = at_deadline d
 -- "late" does.
 abbrev pub turns_in_S5 : Option Stamp → Stamp → Stamp → Thumb → Key → Input → List Stamp
 turns_in_S5 d v w O M (CharacterDown N) = never
-turns_in_S5 d v w O M (CharacterUp N) = if same_key N M then never otherwise at_deadline d
-turns_in_S5 d v w O M (ThumbDown P) = if same_thumb P O then at_deadline d otherwise at_or_late v d
-turns_in_S5 d v w O M (ThumbUp P) = if same_thumb P O then at_or_late w d otherwise at_deadline d
+turns_in_S5 d v w O M (CharacterUp N) = if same_key N M then never orelse at_deadline d
+turns_in_S5 d v w O M (ThumbDown P) = if same_thumb P O then at_deadline d orelse at_or_late v d
+turns_in_S5 d v w O M (ThumbUp P) = if same_thumb P O then at_or_late w d orelse at_deadline d
 turns_in_S5 d v w O M FunctionDown = never
 turns_in_S5 d v w O M Tick = at_deadline d
 
@@ -115,8 +115,8 @@ turns_in_S6 d Tick = at_deadline d
 abbrev pub turns_in_S7 : Option Stamp → Stamp → Stamp → Key → Key → Input → List Stamp
 turns_in_S7 d v w M K (CharacterDown N) = at_or_late v d
 turns_in_S7 d v w M K (CharacterUp N) =
-    if same_key N M then at_or_late w d otherwise
-    if same_key N K then never otherwise at_deadline d
+    if same_key N M then at_or_late w d orelse
+    if same_key N K then never orelse at_deadline d
 turns_in_S7 d v w M K (ThumbDown P) = at_or_late v d
 turns_in_S7 d v w M K (ThumbUp P) = at_deadline d
 turns_in_S7 d v w M K FunctionDown = never
@@ -126,13 +126,13 @@ turns_in_S7 d v w M K Tick = at_deadline d
 -- together, then parted since it is late. Else there is the deadline at most.
 abbrev pub at_and_late : Stamp → Option Stamp → List Stamp → List Stamp
 at_and_late v none late-only = v ∷ []
-at_and_late v (some d) late-only = if ltb v.0 d.0 then v ∷ d ∷ [] otherwise late-only
+at_and_late v (some d) late-only = if ltb v.0 d.0 then v ∷ d ∷ [] orelse late-only
 
 -- S8: a third key parts the pair before v; it stays together where K is up before w, and M and K are parted from there on. The line "late"
 -- parts them as a third letter does that makes no pair with K.
 abbrev pub turns_in_S8 : List Pair → Option Stamp → Stamp → Stamp → Key → Input → List Stamp
-turns_in_S8 l d v w K (CharacterDown N) = at_and_late v d (if is_pair l K N then at_deadline d otherwise never)
-turns_in_S8 l d v w K (CharacterUp N) = if same_key N K then at_or_late w d otherwise at_deadline d
+turns_in_S8 l d v w K (CharacterDown N) = at_and_late v d (if is_pair l K N then at_deadline d orelse never)
+turns_in_S8 l d v w K (CharacterUp N) = if same_key N K then at_or_late w d orelse at_deadline d
 turns_in_S8 l d v w K (ThumbDown P) = at_and_late v d (at_deadline d)
 turns_in_S8 l d v w K (ThumbUp P) = at_deadline d
 turns_in_S8 l d v w K FunctionDown = at_deadline d
@@ -175,12 +175,12 @@ turnings g s x i = turns_in g s (deadline g s x) x i
 -- how many of them are at or before a stamp
 abbrev pub passed : Stamp → List Stamp → ℕ
 passed now [] = 0
-passed now (v ∷ vs) = (if at_or_before v now then 1 otherwise 0) + passed now vs
+passed now (v ∷ vs) = (if at_or_before v now then 1 orelse 0) + passed now vs
 
 -- of turning stamps in order: the first behind a stamp, and the last at or before it
 abbrev pub next_turn : Stamp → List Stamp → Option Stamp
 next_turn now [] = none
-next_turn now (v ∷ vs) = if at_or_before v now then next_turn now vs otherwise some v
+next_turn now (v ∷ vs) = if at_or_before v now then next_turn now vs orelse some v
 
 abbrev pub or_else : Stamp → Option Stamp → Option Stamp
 or_else v none = some v
@@ -188,4 +188,4 @@ or_else v (some w) = some w
 
 abbrev pub last_turn : Stamp → List Stamp → Option Stamp
 last_turn now [] = none
-last_turn now (v ∷ vs) = if at_or_before v now then or_else v (last_turn now vs) otherwise none
+last_turn now (v ∷ vs) = if at_or_before v now then or_else v (last_turn now vs) orelse none

@@ -6,7 +6,7 @@ use mathlib.Core.Logic.{◌≢◌, inl, inr}
 use mathlib.Core.Option.{Option, none, some, none-ne-some}
 use mathlib.Core.Path.{◌≡◌, refl, sym, ap, ◌∙◌}
 use lib.Dec.{leb}
-use Rattle.choice.specs.Choice.{if◌then◌otherwise◌}
+use Rattle.choice.specs.Choice.{if◌then◌orelse◌}
 use lib.ListN.{length, get_or, get_elem?, set, length-set}
 use borrow.Author.Tests.{leb-true, leb-false, le-leb, lt-leb}
 use Rattle.rules.specs.Pairs.{Lent}
@@ -56,7 +56,7 @@ module _ {A : Type 0} where
 -- What stands at a place of a row that is not above 16, as a row of machines and a row of numbers have it.
 module _ {A : Type 0} (row : List A) (k : ℕ) where
   abbrev pub seat : Option A
-  seat = if leb (length row) most_keyboards then get_elem? row k otherwise none
+  seat = if leb (length row) most_keyboards then get_elem? row k orelse none
 
   pub seat_found : (m : A) → seat ≡ some m → (length row ≤ most_keyboards) × (get_elem? row k ≡ some m)
   seat_found m =

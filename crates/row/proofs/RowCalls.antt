@@ -7,7 +7,7 @@ use mathlib.Core.Option.{some}
 use mathlib.Core.Path.{◌≡◌, refl, sym, ap, subst, ◌∙◌}
 use lib.Dec.{eqb}
 use lib.ListN.{get_elem?}
-use Rattle.choice.specs.Choice.{if◌then◌otherwise◌}
+use Rattle.choice.specs.Choice.{if◌then◌orelse◌}
 use Rattle.rules.specs.Pairs.{Lent}
 use Rattle.rules.specs.States.{later, opening, opened}
 use Rattle.rules.specs.GivenBack.{Answer, step}
@@ -111,8 +111,8 @@ module _ (g : Lent) (k : ℕ) where
       go (eqb x.board k) refl (own_at after xs cs more)
     where
       go : (t : Bool) → eqb x.board k ≡ t → Calls g after (events_of k xs) (answers_of k xs cs)
-          → Calls g m ((if t then (x.event ∷ []) otherwise []) ++ events_of k xs)
-          ((if t then answer_in c (get_elem? c.row k) otherwise []) ++ answers_of k xs cs)
+          → Calls g m ((if t then (x.event ∷ []) orelse []) ++ events_of k xs)
+          ((if t then answer_in c (get_elem? c.row k) orelse []) ++ answers_of k xs cs)
       go true own rest = rw left.stands (one.call (gives_own row x c m after f h left own) rest)
       go false other rest =
           let as_before = subst (λ (l : List Machine). Found l k m) (sym h.1) (found_other g k row x m f other) in

@@ -3,7 +3,7 @@
 use Rattle.std.specs.Prelude.{ℕ, List, [], leb, length, set}
 use Rattle.std.proofs.Math.Option.{Option, none, some}
 use Rattle.std.proofs.Math.ListN.{get_elem?}
-use Rattle.choice.specs.Choice.{if◌then◌otherwise◌}
+use Rattle.choice.specs.Choice.{if◌then◌orelse◌}
 use Rattle.rules.specs.Pairs.{Lent}
 use Rattle.rules.specs.ZeroDelay.{Sending}
 use Rattle.rules.specs.GivenBack.{Answer, step}
@@ -19,7 +19,7 @@ most_keyboards = 16
 
 -- the state of keyboard k of a row; none where the row is above 16 or k is past the row
 unfoldable pub keyboard : List Machine → ℕ → Option Machine
-keyboard row k = if leb (length row) most_keyboards then get_elem? row k otherwise none
+keyboard row k = if leb (length row) most_keyboards then get_elem? row k orelse none
 
 -- What an event at a row gives back: the number, the items committed, what is sent, and the row.
 pub record RowAnswer : Type 0 where

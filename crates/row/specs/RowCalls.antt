@@ -4,7 +4,7 @@
 use Rattle.std.specs.Prelude.{ℕ, ◌<◌, true, List, [], ◌∷◌, ◌++◌, map, ◌↔◌, ◌≡◌, eqb}
 use Rattle.std.proofs.Math.Option.{Option, none, some}
 use Rattle.std.proofs.Math.ListN.{get_elem?}
-use Rattle.choice.specs.Choice.{if◌then◌otherwise◌}
+use Rattle.choice.specs.Choice.{if◌then◌orelse◌}
 use Rattle.rules.specs.Pairs.{Lent, lent_good}
 use Rattle.rules.specs.States.{later, opening, opened}
 use Rattle.rules.specs.Refusals.{NotAllowed, AboveLargest}
@@ -71,7 +71,7 @@ answer_in c (some m) = own_answer c.told m ∷ []
 abbrev pub answers_of : ℕ → List RowEvent → List Called → List Stepped
 answers_of k [] cs = []
 answers_of k (x ∷ xs) [] = []
-answers_of k (x ∷ xs) (c ∷ cs) = (if eqb x.board k then answer_in c (get_elem? c.row k) otherwise []) ++ answers_of k xs cs
+answers_of k (x ∷ xs) (c ∷ cs) = (if eqb x.board k then answer_in c (get_elem? c.row k) orelse []) ++ answers_of k xs cs
 
 -- the machine that its last call left, or m
 abbrev pub machine_of : ℕ → Machine → List RowEvent → List Called → Machine

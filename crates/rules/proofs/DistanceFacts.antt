@@ -14,7 +14,7 @@ use Rattle.rules.specs.Pairs.{Lent, lent_good}
 use Rattle.rules.specs.States.{later, deadline, well_formed}
 use Rattle.rules.specs.OneEvent.{◌leaving◌, nothing, mark, late, due_by, settle}
 use Rattle.rules.specs.ZeroDelay.{shown, sent}
-use Rattle.choice.specs.Choice.{if◌then◌otherwise◌}
+use Rattle.choice.specs.Choice.{if◌then◌orelse◌}
 use Rattle.rules.specs.GivenBack.{input, is_new, refused, accepted, judge, Answer, refusal, acceptance, answer, step_with, step}
 use Rattle.rules.specs.Demand3.{tick}
 use Rattle.rules.specs.Distance.{distance, distance_to, Asking, not_answered, asking_with, asking}
@@ -97,13 +97,13 @@ answers g m now =
 same_tests : (g : Lent) (m : Machine) (now : Stamp) (d : Option ℤ) (good formed above before : Bool)
     → (if good then
     (if formed then
-    (if above then not_answered 4 otherwise if before then not_answered 5 otherwise record { number = 0; distance = d })
-    otherwise not_answered 2)
-    otherwise not_answered 12).number
+    (if above then not_answered 4 orelse if before then not_answered 5 orelse record { number = 0; distance = d })
+    orelse not_answered 2)
+    orelse not_answered 12).number
     ≡ (if good then
     answer g m now
-    (if formed then (if above then refused 4 otherwise if before then refused 5 otherwise accepted Tick) otherwise refused 2)
-    otherwise refusal m 12).number
+    (if formed then (if above then refused 4 orelse if before then refused 5 orelse accepted Tick) orelse refused 2)
+    orelse refusal m 12).number
 same_tests g m now d false formed above before = refl
 same_tests g m now d true false above before = refl
 same_tests g m now d true true true before = refl

@@ -10,7 +10,7 @@ use lib.Count.{ones_in, ones, ones_step}
 use lib.Dec.{ltb, leb, eqb}
 use lib.ListN.{length, length-append}
 use borrow.Author.Tests.{ltb-true, ltb-false, lt-ltb, le-ltb, leb-true, le-leb, eqb-true, eqb-false, eq-eqb}
-use Rattle.choice.specs.Choice.{if◌then◌otherwise◌}
+use Rattle.choice.specs.Choice.{if◌then◌orelse◌}
 use Rattle.rules.specs.Numbers.{keys, most_held}
 use Rattle.rules.specs.Held.{bit, is_held, held_below, held_keys, hold, release, how_many, held_formed}
 use Rattle.rules.specs.HeldFacts.{HeldFacts, CountsKeys, SameKeys, FormedExactly}
@@ -187,7 +187,7 @@ unfolding ones_in
 ones_more zero h = omega (arith, bit_zero h)
 ones_more (suc d) h = rw (ones_more d (h / 2), bit_suc h d) (omega arith)
 
-count_one : (h : ℕ) (k : Key) → k.0 < keys → length (if is_held h k then k ∷ [] otherwise []) ≡ bit h k.0
+count_one : (h : ℕ) (k : Key) → k.0 < keys → length (if is_held h k then k ∷ [] orelse []) ≡ bit h k.0
 count_one h k lt =
     by_test (λ (l : List Key). length l ≡ bit h k.0) (is_held h k) (λ t. sym (held_bit h k t)) (λ f. sym (free_bit h k lt f))
 
@@ -271,12 +271,12 @@ other : (j k : Key) → same_key j k ≡ false → j.0 ≢ k.0
 unfolding same_key
 other j k f = eqb-false _ _ f
 
-pub held_by_hold : (h : ℕ) (k j : Key) → k.0 < keys → is_held (hold h k) j ≡ (if same_key j k then true otherwise is_held h j)
+pub held_by_hold : (h : ℕ) (k j : Key) → k.0 < keys → is_held (hold h k) j ≡ (if same_key j k then true orelse is_held h j)
 held_by_hold h k j lt =
     either (same_key j k) (λ t. rw t (subst (λ (i : Key). is_held (hold h k) i ≡ true) (sym (same j k t)) ((held_facts h k).holds lt)))
     (λ f. rw f ((held_facts h k).hold_leaves j (other j k f)))
 
-pub held_by_release : (h : ℕ) (k j : Key) → is_held (release h k) j ≡ (if same_key j k then false otherwise is_held h j)
+pub held_by_release : (h : ℕ) (k j : Key) → is_held (release h k) j ≡ (if same_key j k then false orelse is_held h j)
 held_by_release h k j =
     either (same_key j k) (λ t. rw t (subst (λ (i : Key). is_held (release h k) i ≡ false) (sym (same j k t)) (held_facts h k).frees))
     (λ f. rw f ((held_facts h k).release_leaves j (other j k f)))

@@ -6,7 +6,7 @@ use mathlib.Core.Bool.{false, true≢false}
 use mathlib.Core.List.{[], append-nil}
 use mathlib.Core.Path.{◌≡◌, refl}
 use lib.ListN.{length}
-use Rattle.choice.specs.Choice.{if◌then◌otherwise◌}
+use Rattle.choice.specs.Choice.{if◌then◌orelse◌}
 use Rattle.rules.specs.Pairs.{Lent}
 use Rattle.rules.specs.States.{deadline}
 use Rattle.rules.specs.OneEvent.{Done, ◌leaving◌, nothing, late, act, due_by, and_then, settle_in, settle}
@@ -63,12 +63,12 @@ late_then : (n : ℕ) (g : Lent) (s : Settings) (now : Stamp) (y : Resting) → 
 late_then n g s now y = rw (late_leaves_S1, settle_S1, append-nil, ← (late_leaves_S1 g s y))
 
 settles_once : (n : ℕ) (g : Lent) (s : Settings) (now : Stamp) (y : Resting)
-    → settle_in (suc n) g s now y ≡ (if due_by now (deadline g s y) then late g s y otherwise (nothing leaving y))
+    → settle_in (suc n) g s now y ≡ (if due_by now (deadline g s y) then late g s y orelse (nothing leaving y))
 unfolding settle_in
 settles_once n g s now y = rw (late_then n g s now y)
 
 pub settle_once : (g : Lent) (s : Settings) (now : Stamp) (y : Resting)
-    → settle g s now y ≡ (if due_by now (deadline g s y) then late g s y otherwise (nothing leaving y))
+    → settle g s now y ≡ (if due_by now (deadline g s y) then late g s y orelse (nothing leaving y))
 unfolding settle
 settle_once = settles_once 1
 

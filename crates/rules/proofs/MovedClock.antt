@@ -8,7 +8,7 @@ use mathlib.Core.Path.{◌≡◌, refl, sym, ◌∙◌, ap, ap₂}
 use lib.Dec.{ltb, leb, eqb}
 use lib.ListN.{length}
 use borrow.Author.Tests.{ltb-true, ltb-false, lt-ltb, le-ltb, leb-true, leb-false, le-leb, lt-leb}
-use Rattle.choice.specs.Choice.{if◌then◌otherwise◌}
+use Rattle.choice.specs.Choice.{if◌then◌orelse◌}
 use Rattle.rules.specs.Numbers.{largest_stamp, B, FJ}
 use Rattle.rules.specs.Pairs.{Lent, is_pair, lent_good, GN, alone}
 use Rattle.rules.specs.States.{at, lag, later, deadline, fresh, keys_below, stamps_by, in_order, pair_lent, well_formed}
@@ -295,7 +295,7 @@ module _ (g : Lent) (k : ℕ) where
       (order : ltb (e.stamp.0 + k) l.0 ≡ ltb e.stamp.0 m.last.0) where
     judge_moved : judge g (moved_but l m) (moved_event k e) ≡ judge g m e
     unfolding judge is_new
-    judge_moved = rw formed (ap (λ (v : Verdict). if well_formed g m then v otherwise refused 2) (go (input e.kind e.key)))
+    judge_moved = rw formed (ap (λ (v : Verdict). if well_formed g m then v orelse refused 2) (go (input e.kind e.key)))
       where
         go : (i : Option Input) → judge_input (moved_but l m) (moved_event k e) i ≡ judge_input m e i
         go none = refl

@@ -6,7 +6,7 @@ use mathlib.Core.Option.{Option, none, some}
 use mathlib.Core.Path.{◌≡◌, refl, sym, ◌∙◌, ap, subst}
 use lib.Dec.{eqb, ltb}
 use borrow.Author.Tests.{ltb-true, ltb-false, le-ltb, eqb-true, eqb-false}
-use Rattle.choice.specs.Choice.{if◌then◌otherwise◌}
+use Rattle.choice.specs.Choice.{if◌then◌orelse◌}
 use Rattle.rules.specs.Numbers.{keys, largest_stamp, most_held, within, in_range}
 use Rattle.rules.specs.Held.{is_held, hold, release, how_many, held_formed}
 use Rattle.rules.specs.Pairs.{Lent, lent_good}
@@ -55,7 +55,7 @@ KeyBelow Tick = Unit {0}
 -- what the kind and the key of an event say of the input that they give, and of what it acts as with the keys of h held
 pub record Parsed (kind : ℕ) (k : Key) (i : Input) : Type 0 where
   pub key_event : within 1 5 kind ≡ is_key_input i
-  pub presses : (h : ℕ) (now : Stamp) → (if eqb kind 1 && not (is_held h k) then (press k now ∷ []) otherwise []) ≡ pressed now (acts_as h i)
+  pub presses : (h : ℕ) (now : Stamp) → (if eqb kind 1 && not (is_held h k) then (press k now ∷ []) orelse []) ≡ pressed now (acts_as h i)
   pub key_below : (h : ℕ) → KeyBelow (acts_as h i)
   pub keys_held : (h : ℕ) (j : Key) → is_held (held_after h (acts_as h i)) j ≡ held_then kind k j (is_held h j)
   pub room : (h : ℕ) → FormedSet h → ((eqb kind 1 && not (is_held h k)) && eqb (how_many h) most_held) ≡ false
@@ -78,7 +78,7 @@ module _ (k : Key) where
   with_0_parses n i p = by_test (Allowed n k) (eqb k.0 0) (λ _. allowed p) (λ _. not_allowed)
 
   -- one kind after the other: from the number of the kind on, everything computes
-  or_kind : (n kind : ℕ) {o p : Option Input} → Allowed n k o → Allowed kind k p → Allowed kind k (if eqb kind n then o otherwise p)
+  or_kind : (n kind : ℕ) {o p : Option Input} → Allowed n k o → Allowed kind k p → Allowed kind k (if eqb kind n then o orelse p)
   or_kind n kind {o} a b =
       by_test (Allowed kind k) (eqb kind n) (λ h. subst (λ (x : ℕ). Allowed x k o) (sym (eqb-true kind n h)) a) (λ _. b)
 
@@ -158,7 +158,7 @@ pub record Accepted (g : Lent) (m : Machine) (e : Event) (i : Input) : Type 0 wh
   pub not_above : e.stamp.0 ≤ largest_stamp
   pub not_before : m.last.0 ≤ e.stamp.0
   pub key_event : within 1 5 e.kind ≡ is_key_input i
-  pub presses : (if is_new m e then (press e.key e.stamp ∷ []) otherwise []) ≡ pressed e.stamp (acts_as m.held i)
+  pub presses : (if is_new m e then (press e.key e.stamp ∷ []) orelse []) ≡ pressed e.stamp (acts_as m.held i)
   pub key_below : KeyBelow (acts_as m.held i)
   pub keys_held : (j : Key) → is_held (held_after m.held (acts_as m.held i)) j ≡ held_then e.kind e.key j (is_held m.held j)
   pub stays_formed : FormedSet (held_after m.held (acts_as m.held i))

@@ -7,7 +7,7 @@ use mathlib.Core.Option.{Option, none, some}
 use mathlib.Core.Path.{◌≡◌, refl, sym, ◌∙◌, ap}
 use lib.Dec.{eqb}
 use borrow.Author.Tests.{leb-true, le-leb, eq-eqb}
-use Rattle.choice.specs.Choice.{if◌then◌otherwise◌}
+use Rattle.choice.specs.Choice.{if◌then◌orelse◌}
 use Rattle.rules.specs.Numbers.{within}
 use Rattle.rules.specs.Pairs.{Lent}
 use Rattle.rules.specs.States.{deadline}
@@ -206,7 +206,7 @@ closes g m (e ∷ es) t =
         → closed g (next i) es t ≡ keyed g m.settings t (next i).held (along g key_event_in (next i) es) (next i).resting
         → e.stamp.0 ≤ (first_stamp (along g key_event_in (next i) es) t).0
         → after_items (one_event g m.settings e.stamp m.resting (acts_as m.held i)).items (closed g (next i) es t)
-        ≡ keyed g m.settings t m.held ((if within 1 5 e.kind then (e ∷ []) otherwise []) ++ along g key_event_in (next i) es)
+        ≡ keyed g m.settings t m.held ((if within 1 5 e.kind then (e ∷ []) orelse []) ++ along g key_event_in (next i) es)
         m.resting
     accepted_closes i a more le =
         let d = one_event g m.settings e.stamp m.resting (acts_as m.held i) in

@@ -8,7 +8,7 @@ use mathlib.Core.Path.{◌≡◌, refl, sym, ◌∙◌}
 use lib.Dec.{ltb, leb, lit≤}
 use lib.ListN.{length}
 use borrow.Author.Tests.{leb-true, le-ltb}
-use Rattle.choice.specs.Choice.{if◌then◌otherwise◌}
+use Rattle.choice.specs.Choice.{if◌then◌orelse◌}
 use Rattle.rules.specs.Numbers.{largest_stamp, in_range}
 use Rattle.rules.specs.Pairs.{no_pairs}
 use Rattle.rules.specs.LayoutFacts.{key}
@@ -117,12 +117,12 @@ numbers_of ts = map (λ (t : Told). t.number) ts
 -- that all stamps stay in range, as a test
 abbrev pub in_reach : ℕ → List Event → Bool
 in_reach k [] = true
-in_reach k (a ∷ es) = (if ltb largest_stamp a.stamp.0 then true otherwise leb (a.stamp.0 + k) largest_stamp) && in_reach k es
+in_reach k (a ∷ es) = (if ltb largest_stamp a.stamp.0 then true orelse leb (a.stamp.0 + k) largest_stamp) && in_reach k es
 
 pub all_stay : (k : ℕ) (es : List Event) → in_reach k es ≡ true → AllStay k es
 all_stay k [] h = tt
 all_stay k (a ∷ es) h =
-    let here = if ltb largest_stamp a.stamp.0 then true otherwise leb (a.stamp.0 + k) largest_stamp in
+    let here = if ltb largest_stamp a.stamp.0 then true orelse leb (a.stamp.0 + k) largest_stamp in
     let p = (and-eq-true_iff here (in_reach k es)).0 h in
     (λ low. leb-true _ _ (rw (le-ltb largest_stamp a.stamp.0 low) at p.0), all_stay k es p.1)
 

@@ -1,7 +1,7 @@
 -- What a host leans on when it asks for the distance (Distance.antt). The proofs are in proofs/DistanceFacts.antt.
 use Rattle.std.specs.Prelude.{ℕ, zero, suc, ◌+◌, ◌≤◌, ◌<◌, [], ◌≢◌, ◌≡◌, ℤ, pos, negsuc, ◌-ℤ◌}
 use Rattle.std.proofs.Math.Option.{Option, none, some}
-use Rattle.choice.specs.Choice.{if◌then◌otherwise◌}
+use Rattle.choice.specs.Choice.{if◌then◌orelse◌}
 use Rattle.rules.specs.Numbers.{largest_stamp}
 use Rattle.rules.specs.Pairs.{Lent}
 use Rattle.rules.specs.States.{later, deadline}
@@ -45,7 +45,7 @@ late_line g m t = acceptance m t m.held (late g m.settings m.resting)
 
 -- an accepted event that does the line "late" if it is due, changes the last stamp, and nothing else
 abbrev pub only_time_passes : Lent → Machine → Stamp → Answer
-only_time_passes g m t = if due_by t (deadline g m.settings m.resting) then late_line g m t otherwise only_last m t
+only_time_passes g m t = if due_by t (deadline g m.settings m.resting) then late_line g m t orelse only_last m t
 
 -- of everything lent, every machine and stamp
 abbrev pub TickIsTime : Lent → Machine → Stamp → Type 0

@@ -1,6 +1,6 @@
 -- What 7/12 of document 02 says of a step and of a sequence, besides the rules. The proofs are in proofs/HeldRules.antt.
 use Rattle.std.specs.Prelude.{ℕ, ◌≤◌, ◌<◌, Bool, true, false, ◌&&◌, List, [], ◌∷◌, ◌≢◌, ◌≡◌, eqb, length}
-use Rattle.choice.specs.Choice.{if◌then◌otherwise◌}
+use Rattle.choice.specs.Choice.{if◌then◌orelse◌}
 use Rattle.rules.specs.Numbers.{keys, most_held, in_range}
 use Rattle.rules.specs.Held.{is_held, held_keys, held_formed}
 use Rattle.rules.specs.Pairs.{Lent, same_key}
@@ -48,8 +48,8 @@ SetNotRead g m e h =
 -- key stays as it was before.
 abbrev pub held_then : ℕ → Key → Key → Bool → Bool
 held_then kind N k before =
-    if eqb kind 1 && same_key k N then true otherwise
-    if eqb kind 2 && same_key k N then false otherwise before
+    if eqb kind 1 && same_key k N then true orelse
+    if eqb kind 2 && same_key k N then false orelse before
 
 -- of every machine and event
 abbrev pub HeldAfterwards : Lent → Machine → Event → Type 0

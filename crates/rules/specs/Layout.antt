@@ -2,7 +2,7 @@
 use Rattle.std.specs.Prelude.{ℕ, List, [], ◌∷◌, ◌++◌, eqb, get_or}
 use Prim.Native.Char.{Char, code}
 use Prim.Native.String.{String, [] as end_of_text, ◌∷◌ as ◌followed_by◌}
-use Rattle.choice.specs.Choice.{if◌then◌otherwise◌}
+use Rattle.choice.specs.Choice.{if◌then◌orelse◌}
 use Rattle.rules.specs.declared.Key.{Key}
 use Rattle.rules.specs.declared.Thumb.TheVariants.{Left, Right}
 use Rattle.rules.specs.declared.Face.{Face}
@@ -36,7 +36,7 @@ on (With Right) w = w.right
 
 -- a character's code point, 0 for an empty face
 abbrev pub code_or_0 : Char → ℕ
-code_or_0 c = if eqb (code c) (code "-") then 0 otherwise code c
+code_or_0 c = if eqb (code c) (code "-") then 0 orelse code c
 
 abbrev pub code_points : String → List ℕ
 code_points end_of_text = []

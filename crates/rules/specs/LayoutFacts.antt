@@ -1,7 +1,7 @@
 -- Document 01, "The layout": what it says of its table. The proof is proofs/LayoutFacts.antt.
 use Rattle.std.specs.Prelude.{ℕ, ◌<◌, List, [], ◌∷◌, ◌++◌, ◌≢◌, ◌≡◌, eqb, length}
 use Prim.Native.Char.{code}
-use Rattle.choice.specs.Choice.{if◌then◌otherwise◌}
+use Rattle.choice.specs.Choice.{if◌then◌orelse◌}
 use Rattle.rules.specs.Numbers.{keys}
 use Rattle.rules.specs.Layout.{Row, table, face_of, code_point}
 use Rattle.rules.specs.declared.Key.{Key}
@@ -19,12 +19,12 @@ all_faces w = face_of Plain w ++ (face_of (With Left) w ++ face_of (With Right) 
 -- the characters among code points
 abbrev pub characters : List ℕ → List ℕ
 characters [] = []
-characters (c ∷ l) = if eqb c 0 then characters l otherwise (c ∷ characters l)
+characters (c ∷ l) = if eqb c 0 then characters l orelse (c ∷ characters l)
 
 -- the empty faces among code points
 abbrev pub empty_faces : List ℕ → List ℕ
 empty_faces [] = []
-empty_faces (c ∷ l) = if eqb c 0 then (c ∷ empty_faces l) otherwise empty_faces l
+empty_faces (c ∷ l) = if eqb c 0 then (c ∷ empty_faces l) orelse empty_faces l
 
 -- two keys and faces are the same place of the layout
 pub record SamePlace (k k' : Key) (f f' : Face) : Type 0 where

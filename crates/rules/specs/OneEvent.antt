@@ -3,7 +3,7 @@
 -- S8. N is the new character key, P the thumb of the event, now the event's stamp, g what is lent (9/12).
 use Rattle.std.specs.Prelude.{ℕ, zero, suc, ◌+◌, ◌*◌, Bool, true, false, ◌&&◌, List, [], ◌∷◌, ◌++◌, ltb, leb, eqb}
 use Rattle.std.proofs.Math.Option.{Option, none, some}
-use Rattle.choice.specs.Choice.{if◌then◌otherwise◌}
+use Rattle.choice.specs.Choice.{if◌then◌orelse◌}
 use Rattle.rules.specs.Numbers.{short_overlap_time}
 unfoldable pub use Rattle.rules.specs.Pairs.{same_key}
 use Rattle.rules.specs.Pairs.{Lent, is_pair, pair_character}
@@ -48,7 +48,7 @@ together g M K = Together M K (pair_character g.pairs M K) ∷ []
 
 -- mark O happens only with solo 1
 unfoldable pub mark : Settings → Thumb → List Item
-mark s O = if eqb s.solo 1 then Mark O ∷ [] otherwise []
+mark s O = if eqb s.solo 1 then Mark O ∷ [] orelse []
 
 unfoldable pub same_thumb : Thumb → Thumb → Bool
 same_thumb Left Left = true
@@ -102,8 +102,8 @@ in_S1 now Tick = nothing leaving S1
 
 -- S2: character → S7 if it makes a pair with M; else commit M, S2 with the new key. Thumb → S4. M up or function → commit M, S1.
 abbrev pub in_S2 : Lent → Stamp → Key → Stamp → Input → Done
-in_S2 g now M m (CharacterDown N) = if is_pair g.pairs M N then (nothing leaving S7 M m N now) otherwise (plain M leaving S2 N now)
-in_S2 g now M m (CharacterUp N) = if same_key N M then (plain M leaving S1) otherwise (nothing leaving S2 M m)
+in_S2 g now M m (CharacterDown N) = if is_pair g.pairs M N then (nothing leaving S7 M m N now) orelse (plain M leaving S2 N now)
+in_S2 g now M m (CharacterUp N) = if same_key N M then (plain M leaving S1) orelse (nothing leaving S2 M m)
 in_S2 g now M m (ThumbDown P) = nothing leaving S4 M m P now
 in_S2 g now M m (ThumbUp P) = nothing leaving S2 M m
 in_S2 g now M m FunctionDown = plain M leaving S1
@@ -113,8 +113,8 @@ in_S2 g now M m Tick = nothing leaving S2 M m
 abbrev pub in_S3 : Settings → Stamp → Thumb → Stamp → Input → Done
 in_S3 s now O o (CharacterDown N) = nothing leaving S5 O o N now
 in_S3 s now O o (CharacterUp N) = nothing leaving S3 O o
-in_S3 s now O o (ThumbDown P) = if same_thumb P O then (nothing leaving S3 O o) otherwise (mark s O leaving S3 P now)
-in_S3 s now O o (ThumbUp P) = if same_thumb P O then (mark s O leaving S1) otherwise (nothing leaving S3 O o)
+in_S3 s now O o (ThumbDown P) = if same_thumb P O then (nothing leaving S3 O o) orelse (mark s O leaving S3 P now)
+in_S3 s now O o (ThumbUp P) = if same_thumb P O then (mark s O leaving S1) orelse (nothing leaving S3 O o)
 in_S3 s now O o FunctionDown = mark s O leaving S1
 in_S3 s now O o Tick = nothing leaving S3 O o
 
@@ -124,13 +124,13 @@ in_S3 s now O o Tick = nothing leaving S3 O o
 abbrev pub in_S4 : Settings → Stamp → Key → Stamp → Thumb → Stamp → Input → Done
 in_S4 s now M m O o (CharacterDown N) =
     if second_character_takes_thumb (lag m o) (lag o now) then (plain M leaving S5 O o N now)
-    otherwise (chord M O leaving S2 N now)
+    orelse (chord M O leaving S2 N now)
 in_S4 s now M m O o (CharacterUp N) =
     if same_key N M then
-    (if short_overlap s.j (lag m o) (lag o now) then (plain M leaving S3 O o) otherwise (chord M O leaving S1))
-    otherwise (nothing leaving S4 M m O o)
-in_S4 s now M m O o (ThumbDown P) = if same_thumb P O then (nothing leaving S4 M m O o) otherwise (chord M O leaving S3 P now)
-in_S4 s now M m O o (ThumbUp P) = if same_thumb P O then (chord M O leaving S1) otherwise (nothing leaving S4 M m O o)
+    (if short_overlap s.j (lag m o) (lag o now) then (plain M leaving S3 O o) orelse (chord M O leaving S1))
+    orelse (nothing leaving S4 M m O o)
+in_S4 s now M m O o (ThumbDown P) = if same_thumb P O then (nothing leaving S4 M m O o) orelse (chord M O leaving S3 P now)
+in_S4 s now M m O o (ThumbUp P) = if same_thumb P O then (chord M O leaving S1) orelse (nothing leaving S4 M m O o)
 in_S4 s now M m O o FunctionDown = chord M O leaving S1
 in_S4 s now M m O o Tick = nothing leaving S4 M m O o
 
@@ -139,15 +139,15 @@ in_S4 s now M m O o Tick = nothing leaving S4 M m O o
 -- commit M+O, S1.
 abbrev pub in_S5 : Settings → Stamp → Thumb → Stamp → Key → Stamp → Input → Done
 in_S5 s now O o M m (CharacterDown N) = chord M O leaving S2 N now
-in_S5 s now O o M m (CharacterUp N) = if same_key N M then (chord M O leaving S1) otherwise (nothing leaving S5 O o M m)
+in_S5 s now O o M m (CharacterUp N) = if same_key N M then (chord M O leaving S1) orelse (nothing leaving S5 O o M m)
 in_S5 s now O o M m (ThumbDown P) =
-    if same_thumb P O then (nothing leaving S5 O o M m) otherwise
+    if same_thumb P O then (nothing leaving S5 O o M m) orelse
     if second_thumb_takes_character (lag o m) (lag m now) then (mark s O leaving S4 M m P now)
-    otherwise (chord M O leaving S3 P now)
+    orelse (chord M O leaving S3 P now)
 in_S5 s now O o M m (ThumbUp P) =
     if same_thumb P O then
-    (if short_overlap s.l (lag o m) (lag m now) then (nothing leaving S6 O o M m now) otherwise (chord M O leaving S1))
-    otherwise (nothing leaving S5 O o M m)
+    (if short_overlap s.l (lag o m) (lag m now) then (nothing leaving S6 O o M m now) orelse (chord M O leaving S1))
+    orelse (nothing leaving S5 O o M m)
 in_S5 s now O o M m FunctionDown = chord M O leaving S1
 in_S5 s now O o M m Tick = nothing leaving S5 O o M m
 
@@ -155,7 +155,7 @@ in_S5 s now O o M m Tick = nothing leaving S5 O o M m
 -- Function → mark O, commit M plain, S1.
 abbrev pub in_S6 : Settings → Stamp → Thumb → Stamp → Key → Stamp → Stamp → Input → Done
 in_S6 s now O o M m r (CharacterDown N) = chord M O leaving S2 N now
-in_S6 s now O o M m r (CharacterUp N) = if same_key N M then (chord M O leaving S1) otherwise (nothing leaving S6 O o M m r)
+in_S6 s now O o M m r (CharacterUp N) = if same_key N M then (chord M O leaving S1) orelse (nothing leaving S6 O o M m r)
 in_S6 s now O o M m r (ThumbDown P) = chord M O leaving S3 P now
 in_S6 s now O o M m r (ThumbUp P) = nothing leaving S6 O o M m r
 in_S6 s now O o M m r FunctionDown = (mark s O ++ plain M) leaving S1
@@ -166,12 +166,12 @@ in_S6 s now O o M m r Tick = nothing leaving S6 O o M m r
 -- it; else commit M, S4 with K and its own stamp, and the thumb.
 abbrev pub third : Lent → Stamp → Key → Stamp → Key → Stamp → Key → Done
 third g now M m K k N =
-    if pair_stays (lag m k) (lag k now) then (together g M K leaving S2 N now) otherwise
-    if is_pair g.pairs K N then (plain M leaving S7 K k N now) otherwise ((plain M ++ plain K) leaving S2 N now)
+    if pair_stays (lag m k) (lag k now) then (together g M K leaving S2 N now) orelse
+    if is_pair g.pairs K N then (plain M leaving S7 K k N now) orelse ((plain M ++ plain K) leaving S2 N now)
 
 abbrev pub third_thumb : Lent → Stamp → Key → Stamp → Key → Stamp → Thumb → Done
 third_thumb g now M m K k P =
-    if pair_stays (lag m k) (lag k now) then (together g M K leaving S3 P now) otherwise (plain M leaving S4 K k P now)
+    if pair_stays (lag m k) (lag k now) then (together g M K leaving S3 P now) orelse (plain M leaving S4 K k P now)
 
 -- S7: character, thumb → as above. M up → if the overlap is short S8; else commit the pair, S1. K up or function → commit the
 -- pair, S1.
@@ -179,8 +179,8 @@ abbrev pub in_S7 : Lent → Stamp → Key → Stamp → Key → Stamp → Input 
 in_S7 g now M m K k (CharacterDown N) = third g now M m K k N
 in_S7 g now M m K k (CharacterUp N) =
     if same_key N M then
-    (if short_pair g (lag m k) (lag k now) then (nothing leaving S8 M m K k now) otherwise (together g M K leaving S1))
-    otherwise (if same_key N K then (together g M K leaving S1) otherwise (nothing leaving S7 M m K k))
+    (if short_pair g (lag m k) (lag k now) then (nothing leaving S8 M m K k now) orelse (together g M K leaving S1))
+    orelse (if same_key N K then (together g M K leaving S1) orelse (nothing leaving S7 M m K k))
 in_S7 g now M m K k (ThumbDown P) = third_thumb g now M m K k P
 in_S7 g now M m K k (ThumbUp P) = nothing leaving S7 M m K k
 in_S7 g now M m K k FunctionDown = together g M K leaving S1
@@ -192,8 +192,8 @@ abbrev pub in_S8 : Lent → Settings → Stamp → Key → Stamp → Key → Sta
 in_S8 g s now M m K k r (CharacterDown N) = third g now M m K k N
 in_S8 g s now M m K k r (CharacterUp N) =
     if same_key N K then
-    (if short_of s.l (lag k r) (lag k now) then ((plain M ++ plain K) leaving S1) otherwise (together g M K leaving S1))
-    otherwise (nothing leaving S8 M m K k r)
+    (if short_of s.l (lag k r) (lag k now) then ((plain M ++ plain K) leaving S1) orelse (together g M K leaving S1))
+    orelse (nothing leaving S8 M m K k r)
 in_S8 g s now M m K k r (ThumbDown P) = third_thumb g now M m K k P
 in_S8 g s now M m K k r (ThumbUp P) = nothing leaving S8 M m K k r
 in_S8 g s now M m K k r FunctionDown = together g M K leaving S1
@@ -223,7 +223,7 @@ and_then d f = (d.items ++ (f d.resting).items) leaving (f d.resting).resting
 unfoldable pub settle_in : ℕ → Lent → Settings → Stamp → Resting → Done
 settle_in zero g s now x = nothing leaving x
 settle_in (suc n) g s now x =
-    if due_by now (deadline g s x) then and_then (late g s x) (settle_in n g s now) otherwise (nothing leaving x)
+    if due_by now (deadline g s x) then and_then (late g s x) (settle_in n g s now) orelse (nothing leaving x)
 
 -- Every late line leads to S1, which is never due: a second line never follows (LateOnce in StepFacts.antt).
 unfoldable pub settle : Lent → Settings → Stamp → Resting → Done

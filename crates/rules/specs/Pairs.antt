@@ -2,7 +2,7 @@
 -- come with it. PairFacts.antt has the laws and lists to try.
 use Rattle.std.specs.Prelude.{ℕ, ◌+◌, ◌-◌, ◌*◌, max, Bool, true, false, not, ◌&&◌, ◌||◌, List, [], ◌∷◌, ltb, leb, eqb, length}
 use Rattle.std.proofs.Math.Option.{Option, none, some}
-use Rattle.choice.specs.Choice.{if◌then◌otherwise◌}
+use Rattle.choice.specs.Choice.{if◌then◌orelse◌}
 use Rattle.rules.specs.Numbers.{keys, within, up, A, D, FJ, W}
 use Rattle.rules.specs.declared.Key.{Key}
 use Rattle.rules.specs.declared.Settings.{Settings}
@@ -48,7 +48,7 @@ is_of p a b = names p a b || names p b a
 -- the character that the list gives two keys, none where they are no pair
 unfoldable pub pair_of : List Pair → Key → Key → Option ℕ
 pair_of [] a b = none
-pair_of (p ∷ l) a b = if is_of p a b then some p.character otherwise pair_of l a b
+pair_of (p ∷ l) a b = if is_of p a b then some p.character orelse pair_of l a b
 
 abbrev pub is_some : Option ℕ → Bool
 is_some none = false
@@ -115,7 +115,7 @@ P g = GN g.n g.t_s
 
 -- How long a character waits alone: A. If its key is in some pair: the larger of A and P.
 unfoldable pub alone : Lent → Settings → Key → ℕ
-alone g s M = if in_some_pair g.pairs M then max (A s) (P g) otherwise A s
+alone g s M = if in_some_pair g.pairs M then max (A s) (P g) orelse A s
 
 -- X where there are pairs: the largest of A, P and D
 unfoldable pub X_pairs : Lent → Settings → ℕ

@@ -1,7 +1,7 @@
 -- Document 01, "The words of demand 3": what a sequence of events is, and what is read off it (at the end of this file: the
 -- state that it leaves, its presses, accepted key events, items, line and screen).
 use Rattle.std.specs.Prelude.{ℕ, ◌<◌, Bool, ◌&&◌, List, [], ◌∷◌, ◌++◌, eqb, length}
-use Rattle.choice.specs.Choice.{if◌then◌otherwise◌}
+use Rattle.choice.specs.Choice.{if◌then◌orelse◌}
 use Rattle.rules.specs.Numbers.{within}
 use Rattle.rules.specs.Pairs.{Lent}
 use Rattle.rules.specs.States.{fresh}
@@ -45,15 +45,15 @@ keys_of (p ∷ ps) = p.key ∷ keys_of ps
 
 -- a character press is an accepted down of a key not held (7/12)
 abbrev pub press_in : Machine → Event → Answer → List Press
-press_in m e r = if is_accepted r && is_new m e then (press e.key e.stamp ∷ []) otherwise []
+press_in m e r = if is_accepted r && is_new m e then (press e.key e.stamp ∷ []) orelse []
 
 -- the event itself, if it was accepted
 abbrev pub accepted_in : Machine → Event → Answer → List Event
-accepted_in m e r = if is_accepted r then (e ∷ []) otherwise []
+accepted_in m e r = if is_accepted r then (e ∷ []) orelse []
 
 -- kinds 1 to 5 are key events; whether one is accepted is not a matter of demand 3
 abbrev pub key_event_in : Machine → Event → Answer → List Event
-key_event_in m e r = if is_accepted r && within 1 5 e.kind then (e ∷ []) otherwise []
+key_event_in m e r = if is_accepted r && within 1 5 e.kind then (e ∷ []) orelse []
 
 abbrev pub items_in : Machine → Event → Answer → List Item
 items_in m e r = r.items

@@ -3,7 +3,7 @@
 -- thumb in S6, of M in S8. g is what is lent (9/12).
 use Rattle.std.specs.Prelude.{ℕ, ◌+◌, ◌-◌, min, Bool, true, ◌&&◌, ltb, leb, eqb}
 use Rattle.std.proofs.Math.Option.{Option, none, some}
-use Rattle.choice.specs.Choice.{if◌then◌otherwise◌}
+use Rattle.choice.specs.Choice.{if◌then◌orelse◌}
 use Rattle.rules.specs.Numbers.{keys, largest_stamp, in_range, B, FJ, FL}
 use Rattle.rules.specs.Pairs.{Lent, is_pair, GN, alone}
 use Rattle.rules.specs.Held.{held_formed}
@@ -32,7 +32,7 @@ later a x = at (a.0 + x)
 abbrev pub deadline : Lent → Settings → Resting → Option Stamp
 deadline g s S1 = none
 deadline g s (S2 M m) = some (later m (alone g s M))
-deadline g s (S3 O o) = if eqb s.solo 1 then some (later o (B s)) otherwise none
+deadline g s (S3 O o) = if eqb s.solo 1 then some (later o (B s)) orelse none
 deadline g s (S4 M m O o) = some (later o (FJ s (lag m o)))
 deadline g s (S5 O o M m) = some (later m (FL s (min (lag o m) (B s))))
 deadline g s (S6 O o M m r) = some (later r (lag m r))
@@ -110,7 +110,7 @@ pub record Opening : Type 0 where
 
 -- number 1 and no state where the settings are out of range, else a fresh state
 unfoldable pub opening : Settings → Opening
-opening s = if in_range s then record { number = 0; machine = some (fresh s) } otherwise record { number = 1; machine = none }
+opening s = if in_range s then record { number = 0; machine = some (fresh s) } orelse record { number = 1; machine = none }
 
 -- what the cases of the answer of `Machine::open` say
 abbrev pub opened : Opened → Opening

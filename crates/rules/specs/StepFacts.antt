@@ -3,7 +3,7 @@
 -- rules ask what is lent. The proofs are in proofs/StepFacts.antt; of StaysFormed in Formed.antt, of LateOnce and ListNotRead in
 -- Late.antt there.
 use Rattle.std.specs.Prelude.{ℕ, suc, ◌≤◌, Bool, true, false, List, [], ◌∷◌, ◌++◌, ◌≢◌, ◌≡◌, length, replicate}
-use Rattle.choice.specs.Choice.{if◌then◌otherwise◌}
+use Rattle.choice.specs.Choice.{if◌then◌orelse◌}
 use Rattle.rules.specs.Pairs.{Lent}
 use Rattle.rules.specs.States.{deadline, well_formed}
 use Rattle.rules.specs.OneEvent.{◌leaving◌, nothing, late, act, due_by, settle_in, settle}
@@ -75,7 +75,7 @@ TwoShown x = length (shown x) ≤ 2
 -- due is left.
 pub record LateOnce (g : Lent) (s : Settings) (now : Stamp) (x : Resting) : Type 0 where
   pub late_rests : (t : Stamp) → due_by t (deadline g s (late g s x).resting) ≡ false
-  pub once : (n : ℕ) → settle_in (suc n) g s now x ≡ (if due_by now (deadline g s x) then late g s x otherwise (nothing leaving x))
+  pub once : (n : ℕ) → settle_in (suc n) g s now x ≡ (if due_by now (deadline g s x) then late g s x orelse (nothing leaving x))
   pub none_left : due_by now (deadline g s (settle g s now x).resting) ≡ false
 
 -- the states whose rules ask what is lent: a letter waits with no thumb

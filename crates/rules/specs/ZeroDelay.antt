@@ -1,6 +1,6 @@
 -- Document 01, "Zero delay": what is shown while a character waits, and what a step sends.
 use Rattle.std.specs.Prelude.{ℕ, List, [], ◌∷◌, ◌++◌, eqb}
-use Rattle.choice.specs.Choice.{if◌then◌otherwise◌}
+use Rattle.choice.specs.Choice.{if◌then◌orelse◌}
 use Rattle.rules.specs.Layout.{code_point}
 use Rattle.rules.specs.declared.Key.{Key}
 use Rattle.rules.specs.declared.Thumb.{Thumb}
@@ -19,7 +19,7 @@ mark_word Right = 2
 
 -- a code point as a list of signs: none for an empty face
 abbrev pub sign_unless_0 : ℕ → List ℕ
-sign_unless_0 c = if eqb c 0 then [] otherwise (c ∷ [])
+sign_unless_0 c = if eqb c 0 then [] orelse (c ∷ [])
 
 -- a key's character on a face; an empty face gives none
 unfoldable pub character : Key → Face → List ℕ
@@ -67,4 +67,4 @@ take_back (c ∷ p) = backspace ∷ take_back p
 unfoldable pub sent : List ℕ → List ℕ → List Sending
 sent [] q = send q
 sent (c ∷ p) [] = take_back (c ∷ p)
-sent (c ∷ p) (d ∷ q) = if eqb c d then sent p q otherwise (take_back (c ∷ p) ++ send (d ∷ q))
+sent (c ∷ p) (d ∷ q) = if eqb c d then sent p q orelse (take_back (c ∷ p) ++ send (d ∷ q))

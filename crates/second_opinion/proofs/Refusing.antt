@@ -7,7 +7,7 @@ use mathlib.Core.Bool.{Bool, false, or-false}
 use mathlib.Core.List.{List}
 use mathlib.Core.Path.{◌≡◌, refl}
 use lib.Dec.{ltb}
-use Rattle.choice.specs.Choice.{if◌then◌otherwise◌}
+use Rattle.choice.specs.Choice.{if◌then◌orelse◌}
 use Rattle.rules.specs.Numbers.{keys}
 use Rattle.rules.specs.declared.Event.{Event}
 use Rattle.opinions.specs.Earlier.{allowed, held, held_below, last_stamp}
@@ -49,7 +49,7 @@ module _ (bytes : List ℕ) (i : ℕ) where
 
 -- one key more
 pub one_key_more : (before : List Event) (k n : ℕ) (t : Bool) (x : ℕ) → n ≡ held_below k before → t ≡ held (record { 0 = k }) before
-    → x ≡ (if t then 1 otherwise 0)
+    → x ≡ (if t then 1 orelse 0)
     → n + x ≡ held_below (k + 1) before
 unfolding held_below
 one_key_more before k n t x p q r = rw (add-one k, r, q, p)

@@ -1,7 +1,7 @@
 // The deadlines of the second opinion. Stamps are in range, so that no sum stops at a bound.
 ghost use Rattle.std.specs.Prelude.{◌+◌, ◌≤◌, min, true, ◌≡◌, eqb};
 ghost use Rattle.std.proofs.Math.Option.{none};
-ghost use Rattle.choice.specs.Choice.{if◌then◌otherwise◌};
+ghost use Rattle.choice.specs.Choice.{if◌then◌orelse◌};
 ghost use Rattle.rules.specs.Numbers as Numbers;
 ghost use Rattle.rules.specs.Numbers.{in_range};
 ghost use Rattle.waits.specs.Capped.{largest_number};
@@ -63,7 +63,7 @@ pub fn thumb_first_due(s: Settings, thumb: Event, letter: Event) -> Due
 pub fn thumb_due(s: Settings, thumb: Event) -> Due
     requires s_value { in_range s ≡ true }
     requires in_range { InRange thumb }
-    ensures { when result ≡ (if eqb s.solo 1 then opinions.due_after thumb (Numbers.B s) otherwise none) }
+    ensures { when result ≡ (if eqb s.solo 1 then opinions.due_after thumb (Numbers.B s) orelse none) }
 {
     if s.solo == 1 {
         return due_after(thumb, thumb_wait(s));

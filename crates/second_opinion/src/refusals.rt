@@ -1,6 +1,6 @@
 // Whether an event is accepted behind the events before it.
 ghost use Rattle.std.specs.Prelude.{◌*◌, ◌≤◌, ◌≡◌, length};
-ghost use Rattle.choice.specs.Choice.{if◌then◌otherwise◌};
+ghost use Rattle.choice.specs.Choice.{if◌then◌orelse◌};
 ghost use Rattle.rules.specs.Numbers.{keys};
 ghost use Rattle.opinions.specs.Earlier as opinions;
 ghost use Rattle.second_opinion.specs.Places.{events_before};
@@ -38,7 +38,7 @@ fn last_stamp(events: &[u8], i: usize) -> Stamp
 }
 
 fn one_if(test: bool) -> u32
-    ensures value { result ≡ (if test then 1 otherwise 0) }
+    ensures value { result ≡ (if test then 1 orelse 0) }
     ensures upper_bound { result ≤ 1 }
 {
     if test { 1 } else { 0 }

@@ -5,7 +5,7 @@ use mathlib.Core.Option.{none, some, none-ne-some, some-injective}
 use mathlib.Core.Path.{◌≡◌}
 use borrow.Author.Tests.{ne_eqb}
 use lib.Dec.{eqb}
-use Rattle.choice.specs.Choice.{if◌then◌otherwise◌}
+use Rattle.choice.specs.Choice.{if◌then◌orelse◌}
 use Rattle.rules.specs.States.{is_key}
 use Rattle.rules.specs.GivenBack.{input}
 use Rattle.rules.specs.declared.Key.{Key}
@@ -43,26 +43,26 @@ module _ (kind : ℕ) (k : Key) where
   meant_tick (((((u, a), b), c), d), e) = rw (ne_eqb kind 1 a, ne_eqb kind 2 b, ne_eqb kind 3 c, ne_eqb kind 4 d, ne_eqb kind 5 e)
 
 -- a key that is allowed, and a thumb that is
-one_way : (t : Bool) (a i : Input) → (if t then some a otherwise none) ≡ some i → a ≡ i
+one_way : (t : Bool) (a i : Input) → (if t then some a orelse none) ≡ some i → a ≡ i
 one_way true a i e = some-injective a i e
 one_way false a i e = absurd (none-ne-some i e)
 
-two_ways : (f : Thumb → Input) (t u : Bool) (i : Input) → (if t then some (f Left) otherwise (if u then some (f Right) otherwise none)) ≡ some i
-    → f (if t then Left otherwise Right) ≡ i
+two_ways : (f : Thumb → Input) (t u : Bool) (i : Input) → (if t then some (f Left) orelse (if u then some (f Right) orelse none)) ≡ some i
+    → f (if t then Left orelse Right) ≡ i
 two_ways f true u i e = some-injective (f Left) i e
 two_ways f false u i e = one_way u (f Right) i e
 
 -- the kinds in turn
 module _ (k : Key) (i : Input) where
   by_kinds : (t1 t2 t3 t4 t5 t6 : Bool)
-      → (if t1 then (if is_key k then some (CharacterDown k) otherwise none) otherwise
-      if t2 then (if is_key k then some (CharacterUp k) otherwise none) otherwise
-      if t3 then (if eqb k.0 0 then some (ThumbDown Left) otherwise if eqb k.0 1 then some (ThumbDown Right) otherwise none) otherwise
-      if t4 then (if eqb k.0 0 then some (ThumbUp Left) otherwise if eqb k.0 1 then some (ThumbUp Right) otherwise none) otherwise
-      if t5 then (if eqb k.0 0 then some FunctionDown otherwise none) otherwise
-      if t6 then (if eqb k.0 0 then some Tick otherwise none) otherwise none) ≡ some i
-      → (if t1 then CharacterDown k otherwise if t2 then CharacterUp k otherwise if t3 then ThumbDown (thumb_of k) otherwise
-      if t4 then ThumbUp (thumb_of k) otherwise if t5 then FunctionDown otherwise Tick) ≡ i
+      → (if t1 then (if is_key k then some (CharacterDown k) orelse none) orelse
+      if t2 then (if is_key k then some (CharacterUp k) orelse none) orelse
+      if t3 then (if eqb k.0 0 then some (ThumbDown Left) orelse if eqb k.0 1 then some (ThumbDown Right) orelse none) orelse
+      if t4 then (if eqb k.0 0 then some (ThumbUp Left) orelse if eqb k.0 1 then some (ThumbUp Right) orelse none) orelse
+      if t5 then (if eqb k.0 0 then some FunctionDown orelse none) orelse
+      if t6 then (if eqb k.0 0 then some Tick orelse none) orelse none) ≡ some i
+      → (if t1 then CharacterDown k orelse if t2 then CharacterUp k orelse if t3 then ThumbDown (thumb_of k) orelse
+      if t4 then ThumbUp (thumb_of k) orelse if t5 then FunctionDown orelse Tick) ≡ i
   by_kinds true t2 t3 t4 t5 t6 e = one_way (is_key k) _ i e
   by_kinds false true t3 t4 t5 t6 e = one_way (is_key k) _ i e
   by_kinds false false true t4 t5 t6 e = two_ways (λ t. ThumbDown t) (eqb k.0 0) (eqb k.0 1) i e

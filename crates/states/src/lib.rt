@@ -9,7 +9,7 @@
 #![tactic(auto)]
 
 ghost use Rattle.std.specs.Prelude.{◌≡◌, ◌++◌};
-ghost use Rattle.choice.specs.Choice.{if◌then◌otherwise◌};
+ghost use Rattle.choice.specs.Choice.{if◌then◌orelse◌};
 ghost use Rattle.rules.specs.States.{lag};
 ghost use Rattle.rules.specs.OneEvent.{◌leaving◌, nothing, mark, plain, chord, together, second_thumb_takes_character, short_overlap};
 ghost use Rattle.rules.specs.OneEvent.{short_pair, short_of, late, in_S1, in_S2, in_S3, in_S4, in_S5, in_S6};
@@ -125,7 +125,7 @@ pub fn in_s3(s: Settings, now: Stamp, thumb: Thumb, o: Stamp, kind: u8, n: Key) 
 // S4, M is released: the overlap decides whether O was meant for M.
 fn key_up_in_s4(s: Settings, key: Key, thumb: Thumb, o: Stamp, a: Lag, b: Lag) -> Effect
     ensures { done result ≡
-        (if short_overlap s.j a.0 b.0 then (plain key leaving S3 thumb o) otherwise (chord key thumb leaving S1)) }
+        (if short_overlap s.j a.0 b.0 then (plain key leaving S3 thumb o) orelse (chord key thumb leaving S1)) }
 {
     if short_overlap(s.j, a, b) {
         return commits_plain(key, Resting::S3(thumb, o));
@@ -198,7 +198,7 @@ fn thumb_down_in_s5(
 ) -> Effect
     ensures { done result ≡
         (if second_thumb_takes_character a.0 b.0 then (mark s thumb leaving S4 key m p now)
-        otherwise (chord key thumb leaving S3 p now)) }
+        orelse (chord key thumb leaving S3 p now)) }
 {
     if second_thumb_takes_character(a, b) {
         return commits_mark(s, thumb, Resting::S4(key, m, p, now));
@@ -218,7 +218,7 @@ fn thumb_up_in_s5(
     b: Lag,
 ) -> Effect
     ensures { done result ≡
-        (if short_overlap s.l a.0 b.0 then (nothing leaving S6 thumb o key m now) otherwise (chord key thumb leaving S1)) }
+        (if short_overlap s.l a.0 b.0 then (nothing leaving S6 thumb o key m now) orelse (chord key thumb leaving S1)) }
 {
     if short_overlap(s.l, a, b) {
         return goes_to(Resting::S6(thumb, o, key, m, now));
@@ -345,7 +345,7 @@ fn first_up_in_s7(
 ) -> Effect
     ensures { done result ≡
         (if short_pair (lent list.now times) (lag m k) (lag k at) then (nothing leaving S8 key m second k at)
-        otherwise (together (of_list list.now) key second leaving S1)) }
+        orelse (together (of_list list.now) key second leaving S1)) }
 {
     if short_pair(times.ts, times.n, lag(m, k), lag(k, at)) {
         return goes_to(Resting::S8(key, m, second, k, at));
@@ -399,7 +399,7 @@ fn second_up_in_s8(
 ) -> Effect
     ensures { done result ≡
         (if short_of s.l (lag k r) (lag k at) then ((plain key ++ plain second) leaving S1)
-        otherwise (together (of_list list.now) key second leaving S1)) }
+        orelse (together (of_list list.now) key second leaving S1)) }
 {
     if short_of(s.l, lag(k, r), lag(k, at)) {
         return commits_two(key, second, Resting::S1);

@@ -3,7 +3,7 @@ use Rattle.std.specs.Prelude.{ℕ, Bool, List, [], ◌∷◌, ◌++◌, ◌≡�
 use Prim.Native.Char.{code}
 use Prim.Native.String.{String, [] as end_of_text, ◌∷◌ as ◌followed_by◌}
 use Rattle.std.proofs.Math.Option.{Option, none, some}
-use Rattle.choice.specs.Choice.{if◌then◌otherwise◌}
+use Rattle.choice.specs.Choice.{if◌then◌orelse◌}
 use Rattle.filled.specs.Filled.{filled}
 use Rattle.text.specs.Utf8.{utf8}
 use Rattle.text.specs.declared.Encoded.{Encoded}
@@ -17,8 +17,8 @@ ascii (c followed_by t) = code c ∷ ascii t
 -- one word: 1 is the left mark, 2 the right one, any other a code point
 unfoldable pub sign : ℕ → List ℕ
 sign w =
-    if eqb w 1 then ascii "<L>" otherwise
-    if eqb w 2 then ascii "<R>" otherwise utf8 w
+    if eqb w 1 then ascii "<L>" orelse
+    if eqb w 2 then ascii "<R>" orelse utf8 w
 
 -- a line of words
 unfoldable pub text : List ℕ → List ℕ
@@ -36,5 +36,5 @@ fits words run = leb (length (text words)) (length run)
 -- `encode` of words into a run: where the text fits, it stands at the run's front, and the rest is as it was; else the run is
 -- as it was.
 pub record Encodes (words run : List ℕ) (answer : Encoded) (after : List ℕ) : Type 0 where
-  pub answered : count_of answer ≡ if fits words run then some (length (text words)) otherwise none
-  pub written : after ≡ if fits words run then filled (text words) run otherwise run
+  pub answered : count_of answer ≡ if fits words run then some (length (text words)) orelse none
+  pub written : after ≡ if fits words run then filled (text words) run orelse run

@@ -5,7 +5,7 @@ use mathlib.Core.List.{List}
 use mathlib.Core.Path.{◌≡◌, sym}
 use lib.Dec.{leb}
 use lib.ListN.{length}
-use Rattle.choice.specs.Choice.{if◌then◌otherwise◌}
+use Rattle.choice.specs.Choice.{if◌then◌orelse◌}
 use Rattle.choice.proofs.Choices.{both_ways, by_test}
 use Rattle.notation.specs.Transcribing.{Transcript, log, wrong, transcribed}
 use Rattle.transcriber.specs.Transcribes.{longest_text, answer, Transcribes}

@@ -5,7 +5,7 @@ use mathlib.Core.List.{[]}
 use mathlib.Core.Path.{◌≡◌, refl, sym, ap, ◌∙◌}
 use lib.Dec.{eqb, ltb, leb}
 use lib.ListN.{length}
-use Rattle.choice.specs.Choice.{if◌then◌otherwise◌}
+use Rattle.choice.specs.Choice.{if◌then◌orelse◌}
 use Rattle.choice.proofs.Choices.{both_ways, by_test}
 use Rattle.notation.specs.Transcribing.{no_signs, is_blank, ends_entry, begins_comment, packed, base, most}
 use Rattle.notation.specs.Transcribing.{takes_letters, digit_value}
@@ -130,7 +130,7 @@ module _ (l : Log) where
 
   -- how far the log has been written: a begun record has room for its header
   abbrev pub used : ℕ
-  used = if eqb (length l.body) 0 then length l.records otherwise length l.records + 3 + length l.body
+  used = if eqb (length l.body) 0 then length l.records orelse length l.records + 3 + length l.body
 
 -- a line end leads between two entries
 abbrev pub Ends : Step → Type 0

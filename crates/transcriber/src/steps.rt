@@ -1,6 +1,6 @@
 // One byte of a text.
 ghost use Rattle.std.specs.Prelude.{◌<◌, ◌≡◌, eqb};
-ghost use Rattle.choice.specs.Choice.{if◌then◌otherwise◌};
+ghost use Rattle.choice.specs.Choice.{if◌then◌orelse◌};
 ghost use Rattle.notation.specs.Transcribing as notation;
 ghost use Rattle.notation.specs.declared.Field.TheVariants.{Stamp};
 ghost use Rattle.notation.specs.declared.Follow.TheVariants.{Reads};
@@ -125,7 +125,7 @@ fn kind_and_key(kind: u8, key: u64) -> Output
 
 // Signs that may stand, with the field that they announce and what is known of the record by then.
 fn one_of(signs: u64, expected: u64, field: Field, output: Output, otherwise: Follow) -> Follow
-    ensures { result ≡ if eqb signs expected then Reads field output otherwise otherwise }
+    ensures { result ≡ if eqb signs expected then Reads field output orelse otherwise }
 {
     if signs == expected {
         return Follow::Reads(field, output);
@@ -135,7 +135,7 @@ fn one_of(signs: u64, expected: u64, field: Field, output: Output, otherwise: Fo
 
 // A stamp behind signs that tell the kind and the key.
 fn stamp(signs: u64, expected: u64, kind: u8, key: u64, otherwise: Follow) -> Follow
-    ensures { result ≡ if eqb signs expected then Reads Stamp (notation.kind_and_key kind key) otherwise otherwise }
+    ensures { result ≡ if eqb signs expected then Reads Stamp (notation.kind_and_key kind key) orelse otherwise }
 {
     one_of(
         signs,

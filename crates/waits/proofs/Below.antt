@@ -8,7 +8,7 @@ use native.Mathlib.Decide.{dec_le}
 use native.Mathlib.Omega.{arith}
 use lib.Dec.{ltb, leb}
 use borrow.Author.Tests.{lt-ltb, le-ltb, le-leb, lt-leb, leb-true, leb-false, ltb-true, ltb-false}
-use Rattle.choice.specs.Choice.{if◌then◌otherwise◌}
+use Rattle.choice.specs.Choice.{if◌then◌orelse◌}
 use Rattle.rules.specs.Numbers.{largest_stamp, up}
 use Rattle.rules.specs.declared.Stamp.{Stamp}
 use Rattle.waits.specs.Capped.{largest_number, since_at_most, later_at_most}
@@ -86,7 +86,7 @@ over_since a now x h i = go (dec_le largest_number now.0)
         sym (lt-leb _ now.0 (le-min k j))
 
     go : Dec (largest_number ≤ now.0)
-        → ltb x (if ltb now.0 largest_number then now.0 + 1 - a.0 otherwise largest_number) ≡ leb (min (a.0 + x) largest_number) now.0
+        → ltb x (if ltb now.0 largest_number then now.0 + 1 - a.0 orelse largest_number) ≡ leb (min (a.0 + x) largest_number) now.0
     go (yes j) =
         rw (le-ltb now.0 largest_number j, lt-ltb x largest_number i)
         (sym (le-leb _ now.0 (omega (arith, min-le_right (a.0 + x) largest_number))))

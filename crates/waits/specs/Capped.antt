@@ -1,7 +1,7 @@
 -- What the functions of this crate answer where document 01's number might not fit: the bounds of a sum, of a lag that is
 -- multiplied and of a stamp that is subtracted. In a machine that is well formed, at a stamp that it accepts, none is met.
 use Rattle.std.specs.Prelude.{ℕ, ◌+◌, ◌-◌, min, Bool, ltb, ℤ, pos, ◌-ℤ◌}
-use Rattle.choice.specs.Choice.{if◌then◌otherwise◌}
+use Rattle.choice.specs.Choice.{if◌then◌orelse◌}
 use Rattle.rules.specs.Numbers.{largest_stamp}
 use Rattle.rules.specs.States.{at}
 use Rattle.rules.specs.declared.Stamp.{Stamp}
@@ -16,7 +16,7 @@ later_at_most a x = at (min (a.0 + x) largest_number)
 
 -- how long b is past a, and one more; at the largest number every wait is over
 unfoldable pub since_at_most : Stamp → Stamp → ℕ
-since_at_most a b = if ltb b.0 largest_number then b.0 + 1 - a.0 otherwise largest_number
+since_at_most a b = if ltb b.0 largest_number then b.0 + 1 - a.0 orelse largest_number
 
 -- a lag, or the largest stamp
 unfoldable pub lag_at_most : ℕ → ℕ

@@ -6,7 +6,7 @@ use mathlib.Core.Bool.{Bool, true, false, ◌&&◌, and-eq-true_iff}
 use mathlib.Core.Option.{Option, none, some}
 use mathlib.Core.Path.{◌≡◌, refl, ap, subst, ◌∙◌}
 use lib.Dec.{eqb}
-use Rattle.choice.specs.Choice.{if◌then◌otherwise◌}
+use Rattle.choice.specs.Choice.{if◌then◌orelse◌}
 use lib.IntN.{pos}
 use borrow.Author.Tests.{leb-true, le-leb, le-ltb}
 use Rattle.rules.specs.Numbers.{largest_stamp, in_range, B}
@@ -98,7 +98,7 @@ behind g s S1 h = tt
 behind g s (S2 M m) h = (omega arith, h)
 behind g s (S3 O o) h = go (eqb s.solo 1) h
   where
-    go : (b : Bool) → Bounded (if b then some (later o (B s)) otherwise none) → Behind o (if b then some (later o (B s)) otherwise none)
+    go : (b : Bool) → Bounded (if b then some (later o (B s)) orelse none) → Behind o (if b then some (later o (B s)) orelse none)
     go true h = (omega arith, h)
     go false h = tt
 behind g s (S4 M m O o) h = (omega arith, h)

@@ -2,7 +2,7 @@
 use mathlib.Core.List.{List, map}
 use mathlib.Core.Option.{Option}
 use mathlib.Core.Path.{◌≡◌, sym, ap, ◌∙◌}
-use Rattle.choice.specs.Choice.{if◌then◌otherwise◌}
+use Rattle.choice.specs.Choice.{if◌then◌orelse◌}
 use Rattle.rules.specs.States.{deadline}
 use Rattle.rules.specs.OneEvent.{due_by, one_event}
 use Rattle.rules.specs.GivenBack.{acts_as, step}
@@ -36,7 +36,7 @@ reason_told l t good m w now i =
     ap {B = Reason} (λ (c : Test). record {
       before = x;
       cause = exact.cause;
-      test = if is_late then nothing_compared otherwise c;
+      test = if is_late then nothing_compared orelse c;
       due = exact.due;
       sooner = exact.sooner;
       later = exact.later;

@@ -2,7 +2,7 @@
 -- stamps before and behind the event at which it would have been decided otherwise. What is decided there the engine says.
 use Rattle.std.specs.Prelude.{ℕ, Bool, true, List, map, ◌≡◌}
 use Rattle.std.proofs.Math.Option.{Option}
-use Rattle.choice.specs.Choice.{if◌then◌otherwise◌}
+use Rattle.choice.specs.Choice.{if◌then◌orelse◌}
 use Rattle.rules.specs.Pairs.{Lent, lent_good}
 use Rattle.rules.specs.States.{well_formed}
 use Rattle.rules.specs.OneEvent.{due_by}
@@ -38,7 +38,7 @@ told r = record { is_late = r.late; test = test r.compared; due = when r.due; so
 
 -- the line "late" compares nothing
 unfoldable pub tested : Lent → Settings → Stamp → Resting → Input → Bool → Test
-tested g s now x i is_late = if is_late then nothing_compared otherwise compared g s now x i
+tested g s now x i is_late = if is_late then nothing_compared orelse compared g s now x i
 
 -- by a deadline and turning stamps, with g for what is compared
 abbrev pub numbers_by : Lent → Settings → Resting → Input → Stamp → Option Stamp → List Stamp → Told
@@ -62,7 +62,7 @@ abbrev pub read : Lent → Settings → Stamp → Resting → Input → Told →
 read g s now x i n =
     record {
       before = x;
-      cause = if n.is_late then late otherwise by i;
+      cause = if n.is_late then late orelse by i;
       test = n.test;
       due = distance_to now n.due;
       sooner = if_sooner g s x i now n.sooner;

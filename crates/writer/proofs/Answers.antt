@@ -10,7 +10,7 @@ use mathlib.Core.Option.{Option, none, some}
 use mathlib.Core.Path.{◌≡◌, refl, sym, ap, ◌∙◌}
 use lib.Dec.{leb, eqb}
 use lib.ListN.{length, length-append}
-use Rattle.choice.specs.Choice.{if◌then◌otherwise◌}
+use Rattle.choice.specs.Choice.{if◌then◌orelse◌}
 use Rattle.rules.specs.Numbers.{in_range}
 use Rattle.rules.specs.declared.Settings.{Settings}
 use Rattle.filled.specs.Filled.{filled, Stored}
@@ -48,7 +48,7 @@ module _ (s : Settings) (line run : List ℕ) where
         → r ≡ check_room (length (drill s line)) (length run) (length line)
     answers_8 h r e = rw (too_short h) e
 
-    pub leaves_run : length run < bytes → run ≡ (if leb (length (drill s line)) (length run) then filled (drill s line) run otherwise run)
+    pub leaves_run : length run < bytes → run ≡ (if leb (length (drill s line)) (length run) then filled (drill s line) run orelse run)
     leaves_run h = rw (too_short h)
 
     pub log_written : bytes ≤ length run → (first : ℕ) (mid : List ℕ) (last : ℕ) (after : List ℕ)
@@ -105,8 +105,8 @@ module _ (s : Settings) (line run : List ℕ) where
             left = rw (i, fine) (by_room (leb (length (drill s line)) (length run)) w.left);
           }
         where
-          by_room : (b : Bool) → after ≡ (if b then filled (drill s line) run otherwise run)
-              → after ≡ (if eqb (if b then drilled 0 (length (drill s line)) (length line) otherwise drilled 8 0 (length line)).number 0
-              then filled (drill s line) run otherwise run)
+          by_room : (b : Bool) → after ≡ (if b then filled (drill s line) run orelse run)
+              → after ≡ (if eqb (if b then drilled 0 (length (drill s line)) (length line) orelse drilled 8 0 (length line)).number 0
+              then filled (drill s line) run orelse run)
           by_room true g = g
           by_room false g = g
