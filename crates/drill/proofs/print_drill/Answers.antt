@@ -1,5 +1,4 @@
 -- `drill::print_drill` meets its contract: what was answered lies within the run.
-use borrow.Author.Rules.{rules}
 use Rattle.drill.proofs.print_drill.Goals as goal
 
 pub show-requires : goal.show-requires

@@ -1,5 +1,4 @@
 -- `drill::show` meets its contract: the log that is written lies within the run.
-use borrow.Author.Rules.{rules}
 use mathlib.Core.Path.{sym}
 use lib.Seq.{length-take-le}
 use Rattle.drill.proofs.show.Goals as goal

@@ -1,5 +1,4 @@
 -- `opinion::print_log` meets its contract.
-use borrow.Author.Rules.{rules}
 use Rattle.opinion.proofs.Having.{has_text}
 use Rattle.opinion.proofs.print_log.Goals as goal
 

@@ -1,5 +1,4 @@
 -- `opinion::print_text` meets its contract.
-use borrow.Author.Rules.{rules}
 use mathlib.Core.Path.{sym}
 use lib.Seq.{length-take-le}
 use Rattle.opinion.proofs.print_text.Goals as goal

@@ -9,5 +9,5 @@ enum_known-n c = search (front_fits, rules)
 pub slice_bounds-log-end : goal.slice_bounds-log-end
 slice_bounds-log-end c = search (front_long, rules)
 
-pub slice_bounds-print_log-end-in-Whole : goal.slice_bounds-print_log-end-in-Whole
-slice_bounds-print_log-end-in-Whole c = (search (front_short, rules), search rules)
+pub print_log-requires : goal.print_log-requires
+print_log-requires c = record { log_len_bound = search (front_short, rules); text_room_in_bounds = search rules }

@@ -20,7 +20,11 @@ slice_bounds-play_piece-end-in-Bytes c =
 
 pub play_piece-requires : goal.play_piece-requires
 play_piece-requires c =
-    let bytes = taken _ _ _ c.in-Bytes.is c.read_from.ensures in record { piece_len_bound = fits_buffer _ _ _ _ c.loop-n.invariant c.read_from.new.buf _ c.read_from.auto.buf bytes; room_in_bounds = omega (arith, c.loop-n.invariant.list_long); text_room_in_bounds = omega (arith, c.loop-n.invariant.out_long) }
+    let bytes = taken _ _ _ c.in-Bytes.is c.read_from.ensures in record {
+      piece_len_bound = fits_buffer _ _ _ _ c.loop-n.invariant c.read_from.new.buf _ c.read_from.auto.buf bytes;
+      room_in_bounds = omega (arith, c.loop-n.invariant.list_long);
+      text_room_in_bounds = omega (arith, c.loop-n.invariant.out_long);
+    }
 
 pub loop-n-smaller : goal.loop-n-smaller
 loop-n-smaller c =
@@ -46,4 +50,9 @@ finish-requires c =
     }
 
 pub finish-requires-in-End : goal.finish-requires-in-End
-finish-requires-in-End c = record { reached = c.loop-n.invariant.reached; room_in_bounds = omega (arith, c.loop-n.invariant.list_long); text_room_in_bounds = omega (arith, c.loop-n.invariant.out_long) }
+finish-requires-in-End c =
+    record {
+      reached = c.loop-n.invariant.reached;
+      room_in_bounds = omega (arith, c.loop-n.invariant.list_long);
+      text_room_in_bounds = omega (arith, c.loop-n.invariant.out_long);
+    }

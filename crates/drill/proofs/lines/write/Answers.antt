@@ -1,5 +1,4 @@
 -- `drill::lines::write` meets its contract.
-use borrow.Author.Rules.{rules}
 use mathlib.Core.Path.{sym}
 use lib.Seq.{length-take-le}
 use Rattle.drill.specs.Texts.{longest_text}
@@ -19,14 +18,19 @@ slice_bounds-write_line-end c =
 
 pub returns-in-Words : goal.returns-in-Words
 returns-in-Words c =
-    let taken = words_taken _ _ _ _ c.decode.ensures _ c.in-Words.is in let all_ = never_refused_8 c.args.settings c.args.text.now c.args.log.now c.requires.text_len_bound c.requires.log_room_in_bounds _ _
-    (line_drills _ _ _ _ c.size-n.ensures.value _ taken.1 _ _ c.write_line.ensures) in record { drills = all_.0; within = all_.1.0; not_8 = all_.1.1 }
+    let taken = words_taken _ _ _ _ c.decode.ensures _ c.in-Words.is in
+    let drills = line_drills _ _ _ _ c.size-n.ensures.value _ taken.1 _ _ c.write_line.ensures in
+    let all = never_refused_8 c.args.settings c.args.text.now c.args.log.now c.requires.text_len_bound c.requires.log_room_in_bounds _ _ drills in
+    record { drills = all.0; within = all.1.0; not_8 = all.1.1 }
 
 pub returns-in-Damaged : goal.returns-in-Damaged
 returns-in-Damaged c =
-    let found = damage_found _ _ _ _ c.decode.ensures _ c.in-Damaged.is in let all_ = never_refused_8 c.args.settings c.args.text.now c.args.log.now c.requires.text_len_bound c.requires.log_room_in_bounds _ _
-    (damage_drills _ _ _ _ c.size-n.ensures.value _ found) in record { drills = all_.0; within = all_.1.0; not_8 = all_.1.1 }
+    let found = damage_found _ _ _ _ c.decode.ensures _ c.in-Damaged.is in
+    let drills = damage_drills _ _ _ _ c.size-n.ensures.value _ found in
+    let all = never_refused_8 c.args.settings c.args.text.now c.args.log.now c.requires.text_len_bound c.requires.log_room_in_bounds _ _ drills in
+    record { drills = all.0; within = all.1.0; not_8 = all.1.1 }
 
 pub returns-in-Full : goal.returns-in-Full
 returns-in-Full c =
-    let few = short_front c.size-n.result longest_text c.args.text.now c.requires.text_len_bound in let all_ = never_full _ _ _ _ c.decode.ensures longest_text c.word_buffer-words.ensures few c.in-Full.is in record { drills = all_.0; within = all_.1.0; not_8 = all_.1.1 }
+    let few = short_front c.size-n.result longest_text c.args.text.now c.requires.text_len_bound in
+    absurd (never_full _ _ _ _ c.decode.ensures longest_text c.word_buffer-words.ensures few c.in-Full.is)

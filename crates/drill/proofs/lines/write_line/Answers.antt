@@ -1,4 +1,3 @@
-use borrow.Author.Rules.{rules}
 use Rattle.drill.proofs.Answering.{log_told, refusal_told}
 use Rattle.drill.proofs.lines.write_line.Goals as goal
 

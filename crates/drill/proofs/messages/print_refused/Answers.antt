@@ -1,5 +1,4 @@
 -- `drill::messages::print_refused` meets its contract.
-use borrow.Author.Rules.{rules}
 use mathlib.Core.Path.{sym}
 use lib.Seq.{length-take-le}
 use Rattle.drill.proofs.messages.print_refused.Goals as goal
