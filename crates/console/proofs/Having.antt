@@ -1,15 +1,13 @@
 -- A log that is not too long has a text, since the run has room.
 use Prim.Native.Nat.{ℕ, ◌≤◌}
-use native.Mathlib.Omega.{arith}
 use borrow.Author.Tests.{le-leb}
 use mathlib.Core.Bool.{true}
-use mathlib.Core.Path.{◌≡◌, sym}
+use mathlib.Core.Path.{◌≡◌}
 use mathlib.Core.List.{List}
-use lib.ListN.{length, take}
-use lib.Seq.{length-take-le}
+use lib.ListN.{length}
 use Rattle.console_text.specs.Shows.{longest_log, text_room, fits, shown, Shows, Within}
 use Rattle.console_text.specs.declared.Shown.{Shown}
-use Rattle.console_text.specs.declared.Shown.TheVariants.{Unread, Text}
+use Rattle.console_text.specs.declared.Shown.TheVariants.{Text}
 use Rattle.console.specs.Texts.{HasText}
 
 pub has_text : (l run : List ℕ) (answer : Shown) (after : List ℕ)

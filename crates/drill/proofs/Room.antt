@@ -28,7 +28,6 @@ use Rattle.drill.specs.Texts.{longest_text, line_size, line_of, told, answer_of,
 use Rattle.drill.specs.Room.{log_room, RoomSuffices}
 use Rattle.drill.specs.Room as answered
 use Rattle.drill.specs.declared.lines.Answer.{Answer}
-use Rattle.drill.specs.declared.lines.Answer.TheVariants as answers
 use Rattle.drill.proofs.Answering.{short_front}
 
 -- The log of a line: 8 bytes, and at most five records of 13 for each character.

@@ -8,7 +8,7 @@ use lib.ListN.{length}
 use Rattle.log_opinions.specs.OfLog.{on_log}
 use Rattle.opinion_text.specs.Shows.{longest_log, text_room, fits, shown, Shows, Within}
 use Rattle.opinion_text.specs.declared.Shown.{Shown}
-use Rattle.opinion_text.specs.declared.Shown.TheVariants.{Unread, Text}
+use Rattle.opinion_text.specs.declared.Shown.TheVariants.{Text}
 use Rattle.opinion.specs.Texts.{HasText}
 
 pub has_text : (l run : List ℕ) (answer : Shown) (after : List ℕ)

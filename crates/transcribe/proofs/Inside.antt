@@ -1,11 +1,10 @@
 -- A log that is written lies within its run.
-use Prim.Native.Nat.{ℕ, ◌≤◌}
+use Prim.Native.Nat.{ℕ}
 use borrow.Author.Tests.{leb-true}
 use mathlib.Core.List.{List}
-use mathlib.Core.Path.{◌≡◌, sym}
+use mathlib.Core.Path.{◌≡◌}
 use lib.Dec.{leb}
 use lib.ListN.{length}
-use Rattle.choice.specs.Choice.{if◌then◌orelse◌}
 use Rattle.choice.proofs.Choices.{both_ways, by_test}
 use Rattle.notation.specs.Transcribing.{Transcript, log, wrong, transcribed}
 use Rattle.transcriber.specs.Transcribes.{longest_text, answer, Transcribes}

@@ -1,5 +1,4 @@
 -- `play::finish` meets its contract: a text is answered, since there is room, and the number is neither 2 nor 8. `o` is the entry.
-use borrow.Author.Rules.{rules}
 use Rattle.log_reader.specs.Views.{reader_of}
 use Rattle.play.proofs.Playing.{end_shown}
 use Rattle.play.proofs.finish.Goals as goal

@@ -1,13 +1,10 @@
 -- `play::play_log` meets its contract: the reader is one that the pieces so far led to, and each piece brings the loop nearer to its end.
-use borrow.Author.Rules.{rules}
 use native.Mathlib.Omega.{arith}
-use mathlib.Core.Path.{sym, ◌∙◌}
+use mathlib.Core.Path.{sym}
 use lib.Seq.{length-take-le}
-use Rattle.log_reader.specs.Views.{reader_of}
-use Rattle.play.proofs.Playing.{taken, GoingOn, to_come, begins, fits_buffer, was_refused, goes_on}
+use Rattle.play.proofs.Playing.{taken, begins, fits_buffer, was_refused, goes_on}
 use Rattle.play.proofs.play_log.Goals as goal
 
--- Places, from the last back: `p` behind a piece, `r` behind a read, `l` the loop's head, `o` the entry.
 pub loop-n-init : goal.loop-n-init
 loop-n-init c =
     begins _ _ _ _ c.requires.buffer_value c.requires.room_value c.requires.text_room_value (c.fresh-reader.ensures _)
@@ -23,30 +20,39 @@ slice_bounds-play_piece-end-in-Bytes c =
 
 pub play_piece-requires : goal.play_piece-requires
 play_piece-requires c =
-    let bytes = taken _ _ _ c.in-Bytes.is c.read_from.ensures in record { piece_len_bound = fits_buffer _ _ _ _ c.loop-n.invariant c.read_from.new.1.0 _ c.read_from.auto.buf bytes; room_in_bounds = omega (arith, c.loop-n.invariant.list_long); text_room_in_bounds = omega (arith, c.loop-n.invariant.out_long) }
+    let bytes = taken _ _ _ c.in-Bytes.is c.read_from.ensures in record {
+      piece_len_bound = fits_buffer _ _ _ _ c.loop-n.invariant c.read_from.new.buf _ c.read_from.auto.buf bytes;
+      room_in_bounds = omega (arith, c.loop-n.invariant.list_long);
+      text_room_in_bounds = omega (arith, c.loop-n.invariant.out_long);
+    }
 
 pub loop-n-smaller : goal.loop-n-smaller
 loop-n-smaller c =
     let bytes = taken _ _ _ c.in-Bytes.is c.read_from.ensures in
-    (goes_on _ _ _ _ c.loop-n.invariant c.read_from.new.1.0 _ c.read_from.auto.buf bytes
-    c.play_piece.new.1.0 c.play_piece.result _ c.play_piece.new.1.1.1.0
-    c.in-More.is c.play_piece.ensures c.play_piece.auto.stderr c.play_piece.auto.list).1
+    (goes_on _ _ _ _ c.loop-n.invariant c.read_from.new.buf _ c.read_from.auto.buf bytes
+    c.play_piece.new.list c.play_piece.result _ c.play_piece.new.out
+    c.in-More.is c.play_piece.ensures c.play_piece.auto.list c.play_piece.auto.out).1
 
 pub loop-n-preserved : goal.loop-n-preserved
 loop-n-preserved c =
     let bytes = taken _ _ _ c.in-Bytes.is c.read_from.ensures in
-    (goes_on _ _ _ _ c.loop-n.invariant c.read_from.new.1.0 _ c.read_from.auto.buf bytes
-    c.play_piece.new.1.0 c.play_piece.result _ c.play_piece.new.1.1.1.0
-    c.in-More.is c.play_piece.ensures c.play_piece.auto.stderr c.play_piece.auto.list).0
+    (goes_on _ _ _ _ c.loop-n.invariant c.read_from.new.buf _ c.read_from.auto.buf bytes
+    c.play_piece.new.list c.play_piece.result _ c.play_piece.new.out
+    c.in-More.is c.play_piece.ensures c.play_piece.auto.list c.play_piece.auto.out).0
 
 pub finish-requires : goal.finish-requires
 finish-requires c =
     let bytes = taken _ _ _ c.in-Bytes.is c.read_from.ensures in record {
-      reached = was_refused _ _ _ _ c.loop-n.invariant c.read_from.new.1.0 _ c.read_from.auto.buf bytes
-          c.play_piece.new.1.0 c.play_piece.result _ c.in-Refused.is c.play_piece.ensures;
-      room_in_bounds = omega (arith, c.loop-n.invariant.list_long, c.play_piece.auto.stderr);
-      text_room_in_bounds = omega (arith, c.loop-n.invariant.out_long, c.play_piece.auto.list);
+      reached = was_refused _ _ _ _ c.loop-n.invariant c.read_from.new.buf _ c.read_from.auto.buf bytes
+          c.play_piece.new.list c.play_piece.result _ c.in-Refused.is c.play_piece.ensures;
+      room_in_bounds = omega (arith, c.loop-n.invariant.list_long, c.play_piece.auto.list);
+      text_room_in_bounds = omega (arith, c.loop-n.invariant.out_long, c.play_piece.auto.out);
     }
 
 pub finish-requires-in-End : goal.finish-requires-in-End
-finish-requires-in-End c = record { reached = c.loop-n.invariant.reached; room_in_bounds = omega (arith, c.loop-n.invariant.list_long); text_room_in_bounds = omega (arith, c.loop-n.invariant.out_long) }
+finish-requires-in-End c =
+    record {
+      reached = c.loop-n.invariant.reached;
+      room_in_bounds = omega (arith, c.loop-n.invariant.list_long);
+      text_room_in_bounds = omega (arith, c.loop-n.invariant.out_long);
+    }
