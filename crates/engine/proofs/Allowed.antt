@@ -70,8 +70,8 @@ module _ (k : Key) where
 -- the number of keys, kind by kind
 module _ (kind : ℕ) where
   -- none of the arms before the last, as the code has it there
-  pub keys-of-other :
+  pub keys_of_other :
       (((((Unit {0} × (kind ≡ 1 → ⊥)) × (kind ≡ 2 → ⊥)) × (kind ≡ 3 → ⊥)) × (kind ≡ 4 → ⊥)) × (kind ≡ 5 → ⊥)) × (kind ≡ 6 → ⊥)
       → 0 ≡ keys_of kind
-  keys-of-other ((((((u, a), b), c), d), e), f) =
+  keys_of_other ((((((u, a), b), c), d), e), f) =
       rw (ne_eqb kind 1 a, ne_eqb kind 2 b, ne_eqb kind 3 c, ne_eqb kind 4 d, ne_eqb kind 5 e, ne_eqb kind 6 f)

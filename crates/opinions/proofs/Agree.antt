@@ -248,35 +248,35 @@ module _ (t_s percent : ℕ) where
       abbrev L_decides : List Event → Decision
       L_decides = letter_first s (event 1 M m) (event 3 (number O) o) (deadline g s (S4 M m O o))
 
-      letter-first-lates : Lates s n (S4 M m O o) (some (event 1 M m)) (some (event 3 (number O) o)) L_decides n
-      letter-first-lates i now es l q = rw (q, which_is) (freed (stroke i now) es l refl)
+      letter_first_lates : Lates s n (S4 M m O o) (some (event 1 M m)) (some (event 3 (number O) o)) L_decides n
+      letter_first_lates i now es l q = rw (q, which_is) (freed (stroke i now) es l refl)
 
-      letter-first-meets : Meets s n (S4 M m O o) (some (event 1 M m)) (some (event 3 (number O) o)) L_decides n
+      letter_first_meets : Meets s n (S4 M m O o) (some (event 1 M m)) (some (event 3 (number O) o)) L_decides n
       unfolding matters short run one_event settle settle_in same_key second_character_takes_thumb short_overlap
-      letter-first-meets (CharacterDown N) now es l q =
+      letter_first_meets (CharacterDown N) now es l q =
           either (ltb (lag o now) (lag m o))
           (λ e. decides refl (rw (q, e) (given_on O o N now es l refl)))
           (λ e. decides refl (rw (q, e, which_is) (freed (stroke (CharacterDown N) now) es l refl)))
-      letter-first-meets (CharacterUp N) now es l q =
+      letter_first_meets (CharacterUp N) now es l q =
           either (eqb N.0 M.0)
           (λ e. either (short s.j (lag m o) (lag o now))
           (λ h. decides (rw e) (rw (q, e, h) (stays_set O o es (omega arith) refl)))
           (λ h. decides (rw e) (rw (q, e, h, which_is) (freed (stroke (CharacterUp N) now) es l refl))))
           (λ e. passes (rw e) (rw e))
-      letter-first-meets (ThumbDown P) now es l q =
+      letter_first_meets (ThumbDown P) now es l q =
           either (same_thumb P O) (λ e. passes (rw (same_is, e)) (rw e))
           (λ e. decides (rw (same_is, e)) (rw (q, e, which_is) (freed (stroke (ThumbDown P) now) es l refl)))
-      letter-first-meets (ThumbUp P) now es l q =
+      letter_first_meets (ThumbUp P) now es l q =
           either (same_thumb P O)
           (λ e. decides (rw (same_is, e)) (rw (q, e, which_is) (freed (stroke (ThumbUp P) now) es l refl)))
           (λ e. passes (rw (same_is, e)) (rw e))
-      letter-first-meets FunctionDown now es l q = decides refl (rw (q, which_is) (freed (stroke FunctionDown now) es l refl))
-      letter-first-meets Tick now es l q = passes refl refl
+      letter_first_meets FunctionDown now es l q = decides refl (rw (q, which_is) (freed (stroke FunctionDown now) es l refl))
+      letter_first_meets Tick now es l q = passes refl refl
 
-      letter-first-right : (es : List Stroke) → 2 * length (events es) + 1 < n
+      letter_first_right : (es : List Stroke) → 2 * length (events es) + 1 < n
           → Right s n (from_letter_first s (event 1 M m) (event 3 (number O) o) (events es)) (run s (S4 M m O o) es)
-      letter-first-right =
-          looks s n (S4 M m O o) (some (event 1 M m)) (some (event 3 (number O) o)) L_decides n refl letter-first-lates letter-first-meets
+      letter_first_right =
+          looks s n (S4 M m O o) (some (event 1 M m)) (some (event 3 (number O) o)) L_decides n refl letter_first_lates letter_first_meets
 
     module _ (O : Thumb) (o : Stamp) (M : Key) (m : Stamp) where
       abbrev T_decides : List Event → Decision
@@ -296,7 +296,7 @@ module _ (t_s percent : ℕ) where
           (λ e. either (leb (lag m now) (lag o m))
           (λ h. decides (rw (same_is, e)) (rw (q, e, h, which_is)
           (right_after s n (rule_mark s O) (from_letter_first s (event 1 M m) (event 3 (number P) now) (events es))
-          (run s (S4 M m P now) es) (letter-first-right M m P now es (omega arith)))))
+          (run s (S4 M m P now) es) (letter_first_right M m P now es (omega arith)))))
           (λ h. decides (rw (same_is, e)) (rw (q, e, h, which_is) (freed (stroke (ThumbDown P) now) es l refl))))
       thumb_first_meets (ThumbUp P) now es l q =
           either (same_thumb P O)
@@ -316,24 +316,24 @@ module _ (t_s percent : ℕ) where
       abbrev A_decides : List Event → Decision
       A_decides = letter_alone s (event 1 M m) (deadline g s (S2 M m))
 
-      letter-alone-lates : Lates s n (S2 M m) (some (event 1 M m)) none A_decides n
-      letter-alone-lates i now es l q = rw q (freed (stroke i now) es l refl)
+      letter_alone_lates : Lates s n (S2 M m) (some (event 1 M m)) none A_decides n
+      letter_alone_lates i now es l q = rw q (freed (stroke i now) es l refl)
 
-      letter-alone-meets : Meets s n (S2 M m) (some (event 1 M m)) none A_decides n
+      letter_alone_meets : Meets s n (S2 M m) (some (event 1 M m)) none A_decides n
       unfolding matters run one_event settle settle_in same_key pair_of
-      letter-alone-meets (CharacterDown N) now es l q = decides refl (rw q (freed (stroke (CharacterDown N) now) es l refl))
-      letter-alone-meets (CharacterUp N) now es l q =
+      letter_alone_meets (CharacterDown N) now es l q = decides refl (rw q (freed (stroke (CharacterDown N) now) es l refl))
+      letter_alone_meets (CharacterUp N) now es l q =
           either (eqb N.0 M.0)
           (λ e. decides (rw e) (rw (q, e) (freed (stroke (CharacterUp N) now) es l refl))) (λ e. passes (rw e) (rw e))
-      letter-alone-meets (ThumbDown P) now es l q = decides refl (rw q (letter-first-right M m P now es (omega arith)))
-      letter-alone-meets (ThumbUp P) now es l q = passes refl refl
-      letter-alone-meets FunctionDown now es l q = decides refl (rw q (freed (stroke FunctionDown now) es l refl))
-      letter-alone-meets Tick now es l q = passes refl refl
+      letter_alone_meets (ThumbDown P) now es l q = decides refl (rw q (letter_first_right M m P now es (omega arith)))
+      letter_alone_meets (ThumbUp P) now es l q = passes refl refl
+      letter_alone_meets FunctionDown now es l q = decides refl (rw q (freed (stroke FunctionDown now) es l refl))
+      letter_alone_meets Tick now es l q = passes refl refl
 
-      letter-alone-right : (es : List Stroke) → 2 * length (events es) + 1 < n
+      letter_alone_right : (es : List Stroke) → 2 * length (events es) + 1 < n
           → Right s n (from_letter s (event 1 M m) (events es)) (run s (S2 M m) es)
       unfolding alone_wait in_some_pair
-      letter-alone-right = looks s n (S2 M m) (some (event 1 M m)) none A_decides n refl letter-alone-lates letter-alone-meets
+      letter_alone_right = looks s n (S2 M m) (some (event 1 M m)) none A_decides n refl letter_alone_lates letter_alone_meets
 
     module _ (O : Thumb) (o : Stamp) where
       abbrev O_decides : List Event → Decision
@@ -370,7 +370,7 @@ module _ (t_s percent : ℕ) where
     free_meets : (i : Input) (now : Stamp) (es : List Stroke) → 2 * length (events es) + 1 < n
         → Right s n (decide s free (event_of i now ∷ events es)) (run s S1 (stroke i now ∷ es))
     unfolding run one_event settle settle_in
-    free_meets (CharacterDown N) now es l = letter-alone-right N now es l
+    free_meets (CharacterDown N) now es l = letter_alone_right N now es l
     free_meets (CharacterUp N) now es l = (omega arith, record { left = es; are = refl; goes = refl })
     free_meets (ThumbDown P) now es l = stays_set P now es l refl
     free_meets (ThumbUp P) now es l = (omega arith, record { left = es; are = refl; goes = refl })

@@ -1,5 +1,5 @@
 -- `engine::keys_of` meets its contract.
-use Rattle.engine.proofs.Allowed.{keys-of-other}
+use Rattle.engine.proofs.Allowed.{keys_of_other}
 use Rattle.engine.proofs.keys_of.Goals as goal
 
 pub returns-in-1 : goal.returns-in-1
@@ -21,4 +21,4 @@ pub returns-in-6 : goal.returns-in-6
 returns-in-6 c = rw c.in-6.is
 
 pub returns-in_default : goal.returns-in_default
-returns-in_default c = keys-of-other _ c.in_default.in_default-own.rest
+returns-in_default c = keys_of_other _ c.in_default.in_default-own.rest
