@@ -89,14 +89,14 @@ SetInRange (set.Thumb O) = InRange O
 SetInRange (set.Given O) = InRange O
 
 -- one goes on within the list, with a thumb whose stamp is in range
-abbrev pub Goes_on : ℕ → Decision → Type 0
-Goes_on n (decision.Over items w) = Unit {0}
-Goes_on n (decision.On items h i) = (i ≤ n) × SetInRange h
+abbrev pub GoesOn : ℕ → Decision → Type 0
+GoesOn n (decision.Over items w) = Unit {0}
+GoesOn n (decision.On items h i) = (i ≤ n) × SetInRange h
 
 -- what a decision says
 pub record Decides (from : ListFrom) (n : ℕ) (r : Decision) (d : opinions.Decision) : Type 0 where
   pub as_told : decided from r ≡ d
-  pub goes_on : Goes_on n r
+  pub goes_on : GoesOn n r
 
 -- settings in range, and n events
 pub record Ready (s : Settings) (bytes : List ℕ) (n : ℕ) : Type 0 where
