@@ -7,7 +7,7 @@ ghost use Rattle.second_opinion.specs.Places.{from_place};
 ghost use Rattle.second_opinion.specs.Views.{ListFrom, when, seen_list, InRange, StandsThere, marks, Ready, SetInRange, Small};
 ghost use Rattle.second_opinion.specs.Views.{still_set, Decides};
 
-use crate::deadlines::{
+use crate::due_stamps::{
     gap, letter_due, letter_first_due, released_due, thumb_due, thumb_first_due,
 };
 use crate::looking::{Due, EarlierPress, Seen, ahead, is_late};

@@ -3,8 +3,8 @@
 // writes them if they all fit.
 #![tactic(auto)]
 
-mod deadlines;
 mod decisions;
+mod due_stamps;
 mod found;
 mod looking;
 mod places;

@@ -1,6 +1,6 @@
--- `second_opinion::deadlines::due_after` meets its contract.
+-- `second_opinion::due_stamps::due_after` meets its contract.
 use Rattle.second_opinion.proofs.Waits.{due_fits}
-use Rattle.second_opinion.proofs.deadlines.due_after.Goals as goal
+use Rattle.second_opinion.proofs.due_stamps.due_after.Goals as goal
 
 pub returns : goal.returns
 returns c = due_fits c.args.e _ _ c.requires c.later.ensures

@@ -1,9 +1,9 @@
--- `second_opinion::deadlines::letter_first_due` meets its contract.
+-- `second_opinion::due_stamps::letter_first_due` meets its contract.
 use mathlib.Core.Path.{ap, ◌∙◌}
 use Rattle.rules.specs.Numbers.{FJ}
 use Rattle.opinions.specs.Opinion.{due_after}
 use Rattle.second_opinion.proofs.Waits.{gap_within, FJ_is, FJ_within}
-use Rattle.second_opinion.proofs.deadlines.letter_first_due.Goals as goal
+use Rattle.second_opinion.proofs.due_stamps.letter_first_due.Goals as goal
 
 pub due_after-requires : goal.due_after-requires
 due_after-requires c =

@@ -1,9 +1,9 @@
--- `second_opinion::deadlines::released_due` meets its contract.
+-- `second_opinion::due_stamps::released_due` meets its contract.
 use native.Mathlib.Omega.{arith}
 use mathlib.Core.Path.{ap, ◌∙◌}
 use Rattle.opinions.specs.Opinion.{due_after}
 use Rattle.second_opinion.proofs.Waits.{gap_within}
-use Rattle.second_opinion.proofs.deadlines.released_due.Goals as goal
+use Rattle.second_opinion.proofs.due_stamps.released_due.Goals as goal
 
 pub due_after-requires : goal.due_after-requires
 due_after-requires c =

@@ -1,10 +1,10 @@
--- `second_opinion::deadlines::thumb_first_due` meets its contract.
+-- `second_opinion::due_stamps::thumb_first_due` meets its contract.
 use Prim.Native.Nat.{min}
 use mathlib.Core.Path.{ap, ap₂, ◌∙◌}
 use Rattle.rules.specs.Numbers.{FL}
 use Rattle.opinions.specs.Opinion.{due_after}
 use Rattle.second_opinion.proofs.Waits.{gap_within, shorter_within, FL_is, FL_within}
-use Rattle.second_opinion.proofs.deadlines.thumb_first_due.Goals as goal
+use Rattle.second_opinion.proofs.due_stamps.thumb_first_due.Goals as goal
 
 pub due_after-requires : goal.due_after-requires
 due_after-requires c =

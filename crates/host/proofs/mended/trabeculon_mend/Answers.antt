@@ -1,0 +1,5 @@
+-- `host::mended::trabeculon_mend` meets its contract.
+use Rattle.host.proofs.mended.trabeculon_mend.Goals as goal
+
+pub returns : goal.returns
+returns c = rw c.answer.ensures c.mend.ensures
