@@ -14,4 +14,4 @@ loop-board-preserved c =
     _ _ c.put_board-at.auto.out c.put_board-at.ensures.stored c.put_board-at.ensures.upper_bound
 
 pub returns : goal.returns
-returns c = let all_ = all_put _ _ _ _ c.requires.boards_len c.requires.words_in_bounds _ _ _ c.loop-board.invariant c.loop-board-test.false in record { stored = all_.0; upper_bound = all_.1 }
+returns c = let facts = all_put _ _ _ _ c.requires.boards_len c.requires.words_in_bounds _ _ _ c.loop-board.invariant c.loop-board-test.false in record { stored = facts.0; upper_bound = facts.1 }

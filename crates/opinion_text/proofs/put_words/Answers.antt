@@ -15,4 +15,4 @@ loop-rest-preserved c =
     _ c.word.ensures _ _ c.put-at.auto.out c.put-at.ensures
 
 pub returns : goal.returns
-returns c = let all_ = all_taken _ _ c.requires _ _ _ c.loop-rest.invariant c.loop-rest-test.false in record { stored = all_.0; upper_bound = all_.1 }
+returns c = let facts = all_taken _ _ c.requires _ _ _ c.loop-rest.invariant c.loop-rest-test.false in record { stored = facts.0; upper_bound = facts.1 }

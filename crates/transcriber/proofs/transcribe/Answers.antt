@@ -15,8 +15,8 @@ pub returns-then-out-size : goal.returns-then-out-size
 returns-then-out-size c = search (no_room_answered, rules)
 
 pub put_log-requires : goal.put_log-requires
-put_log-requires c = let all_ = has_room _ _ c.if-text-gt-LONGEST_TEXT.false _ c.measure.ensures.value _ c.in-Size.is
-    c.if-out-size.false in record { text_len_bound = all_.0; fits = all_.1 }
+put_log-requires c = let facts = has_room _ _ c.if-text-gt-LONGEST_TEXT.false _ c.measure.ensures.value _ c.in-Size.is
+    c.if-out-size.false in record { text_len_bound = facts.0; fits = facts.1 }
 
 pub returns-in-Wrong : goal.returns-in-Wrong
 returns-in-Wrong c = search (wrong_answered, rules)

@@ -10,11 +10,11 @@ pub advance-requires : goal.advance-requires
 advance-requires c = search (sizes_small, rules)
 
 pub returns-in-Wrong : goal.returns-in-Wrong
-returns-in-Wrong c = let all_ = wrong_measured _ c.requires _ _ c.loop-i.invariant c.loop-i-test.true _
-    c.byte_at.ensures _ c.advance.ensures.value _ c.in-Wrong.is in record { value = all_.0; within = all_.1 }
+returns-in-Wrong c = let facts = wrong_measured _ c.requires _ _ c.loop-i.invariant c.loop-i-test.true _
+    c.byte_at.ensures _ c.advance.ensures.value _ c.in-Wrong.is in record { value = facts.0; within = facts.1 }
 
 pub loop-i-preserved : goal.loop-i-preserved
 loop-i-preserved c = search (measuring_on, rules)
 
 pub returns : goal.returns
-returns c = let all_ = measured_all _ c.requires _ _ c.loop-i.invariant c.loop-i-test.false in record { value = all_.0; within = all_.1 }
+returns c = let facts = measured_all _ c.requires _ _ c.loop-i.invariant c.loop-i-test.false in record { value = facts.0; within = facts.1 }
