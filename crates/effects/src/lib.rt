@@ -3,12 +3,12 @@
 #![tactic(auto)]
 
 ghost use Rattle.std.specs.Prelude.{◌≡◌, ◌++◌, eqb};
-ghost use Rattle.rules.specs.OneEvent.{◌leaving◌, nothing, mark, plain, chord, together, same_thumb};
+ghost use Rattle.rules.specs.OneEvent.{◌leaving◌, nothing, mark, plain, chord, together};
 ghost use Rattle.rules.specs.declared.Resting.TheVariants.{S1};
-ghost use Rattle.pairs.specs.Lent.{of_list};
+ghost use Rattle.pairs.specs.Lent.{lent_by};
 ghost use Rattle.effects.specs.Views.{done};
 
-use pairs::pair_character;
+use pairs::{Lent, pair_character};
 use rules::{Face, Item, Items, Key, Resting, Settings, Thumb};
 
 // What a rule does: the items that it commits, and the state that it leaves.
@@ -16,21 +16,6 @@ use rules::{Face, Item, Items, Key, Resting, Settings, Thumb};
 pub struct Effect {
     pub items: Items,
     pub resting: Resting,
-}
-
-pub fn same_thumb(p: Thumb, o: Thumb) -> bool
-    ensures { result ≡ same_thumb p o }
-{
-    match p {
-        Thumb::Left => match o {
-            Thumb::Left => true,
-            Thumb::Right => false,
-        },
-        Thumb::Right => match o {
-            Thumb::Left => false,
-            Thumb::Right => true,
-        },
-    }
 }
 
 // Whether a lone thumb press yields a mark.
@@ -46,7 +31,7 @@ pub fn goes_to(resting: Resting) -> Effect
 {
     Effect {
         items: Items::None,
-        resting: resting,
+        resting,
     }
 }
 
@@ -56,7 +41,7 @@ pub fn commits_plain(key: Key, resting: Resting) -> Effect
 {
     Effect {
         items: Items::One(Item::Character(key, Face::Plain)),
-        resting: resting,
+        resting,
     }
 }
 
@@ -66,24 +51,26 @@ pub fn commits_chord(key: Key, thumb: Thumb, resting: Resting) -> Effect
 {
     Effect {
         items: Items::One(Item::Character(key, Face::With(thumb))),
-        resting: resting,
+        resting,
     }
 }
 
 // The mark of O is committed, with solo 1.
+#[tactic(auto, unfolding(rules::specs::OneEvent::mark))]
 pub fn commits_mark(s: Settings, thumb: Thumb, resting: Resting) -> Effect
     ensures { done result ≡ (mark s thumb leaving resting) }
 {
     if yields_mark(s) {
         return Effect {
             items: Items::One(Item::Mark(thumb)),
-            resting: resting,
+            resting,
         };
     }
     goes_to(resting)
 }
 
 // The mark of O, with solo 1, then M alone.
+#[tactic(auto, unfolding(rules::specs::OneEvent::mark))]
 pub fn commits_both(s: Settings, thumb: Thumb, key: Key) -> Effect
     ensures { done result ≡ ((mark s thumb ++ plain key) leaving S1) }
 {
@@ -105,16 +92,16 @@ pub fn commits_two(key: Key, second: Key, resting: Resting) -> Effect
             Item::Character(key, Face::Plain),
             Item::Character(second, Face::Plain),
         ),
-        resting: resting,
+        resting,
     }
 }
 
 // The character that the list gives M and K is committed.
-pub fn commits_pair(list: &[u32], key: Key, second: Key, resting: Resting) -> Effect
-    ensures { done result ≡ (together (of_list list.now) key second leaving resting) }
+pub fn commits_pair(given: Lent<'_>, key: Key, second: Key, resting: Resting) -> Effect
+    ensures { done result ≡ (together (lent_by given.entry) key second leaving resting) }
 {
     Effect {
-        items: Items::One(Item::Together(key, second, pair_character(list, key, second))),
-        resting: resting,
+        items: Items::One(Item::Together(key, second, pair_character(given.list, key, second))),
+        resting,
     }
 }

@@ -48,8 +48,3 @@ pub stored_3 : (run : List ℕ) (at a b c : ℕ)
     → at + 3 ≤ length run
     → set (set (set run at a) (at + 1) b) (at + 2) c ≡ take at run ++ (a ∷ b ∷ c ∷ []) ++ drop (at + 3) run
 stored_3 run at a b c h = simp towards_suc (simp towards_suc at (sets-eq (a ∷ b ∷ c ∷ []) run at h))
-
-pub stored_4 : (run : List ℕ) (at a b c d : ℕ)
-    → at + 4 ≤ length run
-    → set (set (set (set run at a) (at + 1) b) (at + 2) c) (at + 3) d ≡ take at run ++ (a ∷ b ∷ c ∷ d ∷ []) ++ drop (at + 4) run
-stored_4 run at a b c d h = simp towards_suc (simp towards_suc at (sets-eq (a ∷ b ∷ c ∷ d ∷ []) run at h))

@@ -7,7 +7,7 @@ ghost use Rattle.rules.specs.ZeroDelay.{sign_unless_0, mark_word, sign_of};
 ghost use Rattle.layout.specs.Column.{column_of, rows, code_point_in};
 ghost use Rattle.layout.specs.Words.{word_in};
 
-use rules::{Face, Item, Key, Machine, Thumb};
+use rules::{Face, Item, Key, Thumb};
 
 // A row for each key: its code point on the plain face, with the left thumb, with the right thumb; 0 for an empty face.
 const FACES: [[u16; 3]; 31] = [
@@ -56,14 +56,13 @@ fn column(face: Face) -> usize
 {
     match face {
         Face::Plain => 0,
-        Face::With(thumb) => match thumb {
-            Thumb::Left => 1,
-            Thumb::Right => 2,
-        },
+        Face::With(Thumb::Left) => 1,
+        Face::With(Thumb::Right) => 2,
     }
 }
 
 // The table, for a caller that lends it to many look-ups: it is laid down once, and not at each of them.
+#[tactic(auto, unfolding(crate::specs::Column::rows, rules::specs::Layout::table))]
 pub fn faces() -> [[u16; 3]; 31]
     ensures { result ≡ rows }
 {
@@ -71,32 +70,30 @@ pub fn faces() -> [[u16; 3]; 31]
 }
 
 // The code point on a key's face in a lent table; 0 for an empty face, and for a key that is not there.
+#[tactic(auto, unfolding(crate::specs::Column::code_point_in))]
 pub fn code_point_in(table: &[[u16; 3]; 31], key: Key, face: Face) -> u16
     ensures { result ≡ code_point_in table.now key face }
 {
-    let at = key.0;
-    if at < Machine::KEYS.0 {
-        let row = at as usize;
-        let place = column(face);
-        return table[row][place];
+    match table.get(key.0 as usize) {
+        Some(row) => row[column(face)],
+        None => 0,
     }
-    0
 }
 
 // The code point on a key's face.
+#[tactic(auto, using(crate::proofs::Table::in_rows))]
 pub fn code_point(key: Key, face: Face) -> u16
     ensures { result ≡ code_point key face }
 {
-    let table = faces();
-    code_point_in(&table, key, face)
+    code_point_in(&faces(), key, face)
 }
 
 fn mark_word(thumb: Thumb) -> u16
     ensures { result ≡ mark_word thumb }
 {
     match thumb {
-        Thumb::Left => 1u16,
-        Thumb::Right => 2u16,
+        Thumb::Left => 1,
+        Thumb::Right => 2,
     }
 }
 
@@ -115,6 +112,5 @@ pub fn word_in(table: &[[u16; 3]; 31], item: Item) -> u16
 pub fn word(item: Item) -> u16
     ensures { sign_unless_0 result ≡ sign_of item }
 {
-    let table = faces();
-    word_in(&table, item)
+    word_in(&faces(), item)
 }

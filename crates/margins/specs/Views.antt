@@ -1,25 +1,22 @@
 -- What the types of this crate say.
-use Rattle.std.specs.Prelude.{List, [], ◌∷◌}
+use Rattle.std.specs.Prelude as code
+use Rattle.std.specs.Prelude.{List, []}
 use Rattle.std.proofs.Math.Option.{Option, none, some}
 use Rattle.rules.specs.Pairs.{Lent}
+use Rattle.rules.specs.Items.{listed}
+use Rattle.rules.specs.declared.Few.{Few}
 use Rattle.rules.specs.declared.Stamp.{Stamp}
 use Rattle.pairs.specs.declared.Times.{Times}
 use Rattle.reasons.specs.Reason.{Test, nothing_compared, takes_thumb, takes_character, overlaps, stays, overlaps_as_pair, overlaps_of}
-use Rattle.margins.specs.declared.Due.{Due}
-use Rattle.margins.specs.declared.Due.TheVariants as due
-use Rattle.margins.specs.declared.Turns.{Turns}
-use Rattle.margins.specs.declared.Turns.TheVariants as turn
 use Rattle.margins.specs.declared.Compared.{Compared}
 use Rattle.margins.specs.declared.Compared.TheVariants as compares
 
-abbrev pub when : Due → Option Stamp
-when due.Never = none
-when (due.At d) = some d
+abbrev pub when : code.Option Stamp → Option Stamp
+when code.None = none
+when (code.Some d) = some d
 
-abbrev pub stamps : Turns → List Stamp
-stamps turn.Never = []
-stamps (turn.Once v) = v ∷ []
-stamps (turn.Twice v w) = v ∷ w ∷ []
+abbrev pub stamps : Few Stamp → List Stamp
+stamps = listed
 
 abbrev pub test : Compared → Test
 test compares.Nothing = nothing_compared

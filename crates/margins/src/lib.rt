@@ -5,35 +5,22 @@
 
 ghost use Rattle.std.specs.Prelude.{◌≡◌, ◌*◌, ◌/◌, min};
 ghost use Rattle.waits.specs.Capped.{lag_at_most};
-ghost use Rattle.rules.specs.States.{at};
-ghost use Rattle.pairs.specs.Lent.{pairs_in, lent};
+ghost use Rattle.pairs.specs.Lent.{pairs_in, lent_by};
 ghost use Rattle.reasons.specs.Turning.{at_deadline, at_or_late, at_and_late, turns_in_S2, turns_in_S3, turns_in_S4, turns_in_S5};
 ghost use Rattle.reasons.specs.Turning.{turns_in_S6, turns_in_S7, turns_in_S8, since, next_turn, last_turn};
 ghost use Rattle.reasons.specs.Reason.{compared_in_S4, compared_in_S5, compared_in_S7, compared_in_S8, compared, sooner_at};
 ghost use Rattle.margins.specs.Views.{when, stamps, test, of_times};
 ghost use Rattle.margins.specs.Capped.{parts_at_most, short_at_most, share_at_most, turns_at_most};
 
-use effects::same_thumb;
-use pairs::{Times, is_pair};
-use rules::{Input, Key, Lag, Resting, Settings, Stamp, Thumb};
-use waits::{at_or_before, before, character_first_wait, lag, later, same_key, shorter};
-
-// A stamp, if there is one: the deadline of a resting state, or a turning stamp.
-#[derive(Clone, Copy)]
-pub enum Due {
-    Never,
-    At(Stamp),
-}
+use pairs::{Lent, Times, is_pair};
+use rules::{Few, Input, Key, Lag, Machine, Resting, Settings, Stamp, Thumb};
+use waits::{lag, later, together};
 
 // Turning stamps, in order.
-#[derive(Clone, Copy)]
-pub enum Turns {
-    Never,
-    Once(Stamp),
-    Twice(Stamp, Stamp),
-}
+pub type Turns = Few<Stamp>;
 
-// What an event's line compares: nothing, or the gaps a and b by one of document 01's tests.
+// What an event's line compares: nothing, or the gaps a and b by one of document 01's tests. Nothing is one of the kinds and no
+// Option, as in the definition of a test (`Test`): so that one match names each kind once.
 #[derive(Clone, Copy)]
 pub enum Compared {
     Nothing,
@@ -51,6 +38,7 @@ pub enum Compared {
     OverlapsOf(u8, Lag, Lag),
 }
 
+#[tactic(auto, unfolding(rules::specs::OneEvent::same_key))]
 fn compared_in_s4(s: Settings, at: Stamp, key: Key, m: Stamp, o: Stamp, input: Input) -> Compared
     ensures { test result ≡ compared_in_S4 s at key m o input }
 {
@@ -58,20 +46,12 @@ fn compared_in_s4(s: Settings, at: Stamp, key: Key, m: Stamp, o: Stamp, input: I
     let b = lag(o, at);
     match input {
         Input::CharacterDown(_) => Compared::TakesThumb(a, b),
-        Input::CharacterUp(n) => {
-            if same_key(n, key) {
-                Compared::Overlaps(s.j, a, b)
-            } else {
-                Compared::Nothing
-            }
-        }
-        Input::ThumbDown(_) => Compared::Nothing,
-        Input::ThumbUp(_) => Compared::Nothing,
-        Input::FunctionDown => Compared::Nothing,
-        Input::Tick => Compared::Nothing,
+        Input::CharacterUp(n) if n == key => Compared::Overlaps(s.j, a, b),
+        _ => Compared::Nothing,
     }
 }
 
+#[tactic(auto, unfolding(rules::specs::OneEvent::same_thumb))]
 fn compared_in_s5(
     s: Settings,
     at: Stamp,
@@ -85,48 +65,26 @@ fn compared_in_s5(
     let a = lag(o, m);
     let b = lag(m, at);
     match input {
-        Input::CharacterDown(_) => Compared::Nothing,
-        Input::CharacterUp(_) => Compared::Nothing,
-        Input::ThumbDown(p) => {
-            if same_thumb(p, thumb) {
-                Compared::Nothing
-            } else {
-                Compared::TakesCharacter(a, b)
-            }
-        }
-        Input::ThumbUp(p) => {
-            if same_thumb(p, thumb) {
-                Compared::Overlaps(s.l, a, b)
-            } else {
-                Compared::Nothing
-            }
-        }
-        Input::FunctionDown => Compared::Nothing,
-        Input::Tick => Compared::Nothing,
+        Input::ThumbDown(p) if p != thumb => Compared::TakesCharacter(a, b),
+        Input::ThumbUp(p) if p == thumb => Compared::Overlaps(s.l, a, b),
+        _ => Compared::Nothing,
     }
 }
 
+#[tactic(auto, unfolding(rules::specs::OneEvent::same_key))]
 fn compared_in_s7(times: Times, at: Stamp, key: Key, m: Stamp, k: Stamp, input: Input) -> Compared
     ensures { test result ≡ compared_in_S7 (of_times times) at key m k input }
 {
     let a = lag(m, k);
     let b = lag(k, at);
     match input {
-        Input::CharacterDown(_) => Compared::Stays(a, b),
-        Input::CharacterUp(n) => {
-            if same_key(n, key) {
-                Compared::OverlapsAsPair(times.n, times.ts, a, b)
-            } else {
-                Compared::Nothing
-            }
-        }
-        Input::ThumbDown(_) => Compared::Stays(a, b),
-        Input::ThumbUp(_) => Compared::Nothing,
-        Input::FunctionDown => Compared::Nothing,
-        Input::Tick => Compared::Nothing,
+        Input::CharacterDown(_) | Input::ThumbDown(_) => Compared::Stays(a, b),
+        Input::CharacterUp(n) if n == key => Compared::OverlapsAsPair(times.n, times.ts, a, b),
+        _ => Compared::Nothing,
     }
 }
 
+#[tactic(auto, unfolding(rules::specs::OneEvent::same_key))]
 fn compared_in_s8(
     s: Settings,
     at: Stamp,
@@ -138,21 +96,11 @@ fn compared_in_s8(
 ) -> Compared
     ensures { test result ≡ compared_in_S8 s at m second k r input }
 {
-    let a = lag(m, k);
     let b = lag(k, at);
     match input {
-        Input::CharacterDown(_) => Compared::Stays(a, b),
-        Input::CharacterUp(n) => {
-            if same_key(n, second) {
-                Compared::OverlapsOf(s.l, lag(k, r), b)
-            } else {
-                Compared::Nothing
-            }
-        }
-        Input::ThumbDown(_) => Compared::Stays(a, b),
-        Input::ThumbUp(_) => Compared::Nothing,
-        Input::FunctionDown => Compared::Nothing,
-        Input::Tick => Compared::Nothing,
+        Input::CharacterDown(_) | Input::ThumbDown(_) => Compared::Stays(lag(m, k), b),
+        Input::CharacterUp(n) if n == second => Compared::OverlapsOf(s.l, lag(k, r), b),
+        _ => Compared::Nothing,
     }
 }
 
@@ -161,233 +109,149 @@ pub fn comparing(times: Times, s: Settings, at: Stamp, resting: Resting, input: 
     ensures { test result ≡ compared (of_times times) s at resting input }
 {
     match resting {
-        Resting::S1 => Compared::Nothing,
-        Resting::S2(_, _) => Compared::Nothing,
-        Resting::S3(_, _) => Compared::Nothing,
         Resting::S4(key, m, _, o) => compared_in_s4(s, at, key, m, o, input),
         Resting::S5(thumb, o, _, m) => compared_in_s5(s, at, thumb, o, m, input),
-        Resting::S6(_, _, _, _, _) => Compared::Nothing,
         Resting::S7(key, m, _, k) => compared_in_s7(times, at, key, m, k, input),
         Resting::S8(_, m, second, k, r) => compared_in_s8(s, at, m, second, k, r, input),
+        Resting::S1 | Resting::S2(..) | Resting::S3(..) | Resting::S6(..) => Compared::Nothing,
     }
 }
 
 // At the deadline, if there is one.
-fn at_deadline(due: Due) -> Turns
+fn at_deadline(due: Option<Stamp>) -> Turns
     ensures { stamps result ≡ at_deadline (when due) }
 {
     match due {
-        Due::Never => Turns::Never,
-        Due::At(d) => Turns::Once(d),
+        None => Turns::None,
+        Some(d) => Turns::One(d),
     }
-}
-
-// The sooner of two stamps.
-fn sooner(v: Stamp, d: Stamp) -> Stamp
-    ensures { result ≡ at (min v.0 d.0) }
-{
-    if v.0 <= d.0 {
-        return v;
-    }
-    d
 }
 
 // At v, or at the deadline where that is sooner.
-fn at_or_late(v: Stamp, due: Due) -> Turns
+fn at_or_late(v: Stamp, due: Option<Stamp>) -> Turns
     ensures { stamps result ≡ at_or_late v (when due) }
 {
     match due {
-        Due::Never => Turns::Once(v),
-        Due::At(d) => Turns::Once(sooner(v, d)),
+        None => Turns::One(v),
+        Some(d) => Turns::One(v.min(d)),
     }
 }
 
 // At v and then at the deadline, where v comes first; else at the deadline, or never.
-fn at_and_late(v: Stamp, due: Due, behind: Turns) -> Turns
+fn at_and_late(v: Stamp, due: Option<Stamp>, behind: Turns) -> Turns
     ensures { stamps result ≡ at_and_late v (when due) (stamps behind) }
 {
     match due {
-        Due::Never => Turns::Once(v),
-        Due::At(d) => {
-            if before(v, d) {
-                Turns::Twice(v, d)
-            } else {
-                behind
-            }
-        }
+        None => Turns::One(v),
+        Some(d) if v < d => Turns::Two(v, d),
+        Some(_) => behind,
     }
 }
 
-fn turns_in_s2(list: &[u32], due: Due, key: Key, input: Input) -> Turns
+#[tactic(auto, unfolding(rules::specs::OneEvent::same_key))]
+fn turns_in_s2(list: &[u32], due: Option<Stamp>, key: Key, input: Input) -> Turns
     ensures { stamps result ≡ turns_in_S2 (pairs_in list.now) (when due) key input }
 {
     match input {
-        Input::CharacterDown(n) => {
-            if is_pair(list, key, n) {
-                at_deadline(due)
-            } else {
-                Turns::Never
-            }
-        }
-        Input::CharacterUp(n) => {
-            if same_key(n, key) {
-                Turns::Never
-            } else {
-                at_deadline(due)
-            }
-        }
-        Input::ThumbDown(_) => at_deadline(due),
-        Input::ThumbUp(_) => at_deadline(due),
-        Input::FunctionDown => Turns::Never,
-        Input::Tick => at_deadline(due),
+        Input::CharacterDown(n) if !is_pair(list, key, n) => Turns::None,
+        Input::CharacterUp(n) if n == key => Turns::None,
+        Input::FunctionDown => Turns::None,
+        _ => at_deadline(due),
     }
 }
 
-fn turns_in_s3(due: Due, thumb: Thumb, input: Input) -> Turns
+#[tactic(auto, unfolding(rules::specs::OneEvent::same_thumb))]
+fn turns_in_s3(due: Option<Stamp>, thumb: Thumb, input: Input) -> Turns
     ensures { stamps result ≡ turns_in_S3 (when due) thumb input }
 {
     match input {
-        Input::CharacterDown(_) => at_deadline(due),
-        Input::CharacterUp(_) => at_deadline(due),
-        Input::ThumbDown(p) => {
-            if same_thumb(p, thumb) {
-                at_deadline(due)
-            } else {
-                Turns::Never
-            }
-        }
-        Input::ThumbUp(p) => {
-            if same_thumb(p, thumb) {
-                Turns::Never
-            } else {
-                at_deadline(due)
-            }
-        }
-        Input::FunctionDown => Turns::Never,
-        Input::Tick => at_deadline(due),
+        Input::ThumbDown(p) if p != thumb => Turns::None,
+        Input::ThumbUp(p) if p == thumb => Turns::None,
+        Input::FunctionDown => Turns::None,
+        _ => at_deadline(due),
     }
 }
 
-fn turns_in_s4(due: Due, v: Stamp, w: Stamp, key: Key, thumb: Thumb, input: Input) -> Turns
+#[tactic(auto, unfolding(rules::specs::OneEvent::same_key, rules::specs::OneEvent::same_thumb))]
+fn turns_in_s4(
+    due: Option<Stamp>,
+    v: Stamp,
+    w: Stamp,
+    key: Key,
+    thumb: Thumb,
+    input: Input,
+) -> Turns
     ensures { stamps result ≡ turns_in_S4 (when due) v w key thumb input }
 {
     match input {
         Input::CharacterDown(_) => at_or_late(v, due),
-        Input::CharacterUp(n) => {
-            if same_key(n, key) {
-                at_or_late(w, due)
-            } else {
-                at_deadline(due)
-            }
-        }
-        Input::ThumbDown(p) => {
-            if same_thumb(p, thumb) {
-                at_deadline(due)
-            } else {
-                Turns::Never
-            }
-        }
-        Input::ThumbUp(p) => {
-            if same_thumb(p, thumb) {
-                Turns::Never
-            } else {
-                at_deadline(due)
-            }
-        }
-        Input::FunctionDown => Turns::Never,
-        Input::Tick => at_deadline(due),
+        Input::CharacterUp(n) if n == key => at_or_late(w, due),
+        Input::ThumbDown(p) if p != thumb => Turns::None,
+        Input::ThumbUp(p) if p == thumb => Turns::None,
+        Input::FunctionDown => Turns::None,
+        _ => at_deadline(due),
     }
 }
 
-fn turns_in_s5(due: Due, v: Stamp, w: Stamp, thumb: Thumb, key: Key, input: Input) -> Turns
+#[tactic(auto, unfolding(rules::specs::OneEvent::same_key, rules::specs::OneEvent::same_thumb))]
+fn turns_in_s5(
+    due: Option<Stamp>,
+    v: Stamp,
+    w: Stamp,
+    thumb: Thumb,
+    key: Key,
+    input: Input,
+) -> Turns
     ensures { stamps result ≡ turns_in_S5 (when due) v w thumb key input }
 {
     match input {
-        Input::CharacterDown(_) => Turns::Never,
-        Input::CharacterUp(n) => {
-            if same_key(n, key) {
-                Turns::Never
-            } else {
-                at_deadline(due)
-            }
-        }
-        Input::ThumbDown(p) => {
-            if same_thumb(p, thumb) {
-                at_deadline(due)
-            } else {
-                at_or_late(v, due)
-            }
-        }
-        Input::ThumbUp(p) => {
-            if same_thumb(p, thumb) {
-                at_or_late(w, due)
-            } else {
-                at_deadline(due)
-            }
-        }
-        Input::FunctionDown => Turns::Never,
-        Input::Tick => at_deadline(due),
+        Input::CharacterDown(_) => Turns::None,
+        Input::CharacterUp(n) if n == key => Turns::None,
+        Input::ThumbDown(p) if p != thumb => at_or_late(v, due),
+        Input::ThumbUp(p) if p == thumb => at_or_late(w, due),
+        Input::FunctionDown => Turns::None,
+        _ => at_deadline(due),
     }
 }
 
-fn turns_in_s6(due: Due, input: Input) -> Turns
+fn turns_in_s6(due: Option<Stamp>, input: Input) -> Turns
     ensures { stamps result ≡ turns_in_S6 (when due) input }
 {
     match input {
-        Input::CharacterDown(_) => at_deadline(due),
-        Input::CharacterUp(_) => at_deadline(due),
-        Input::ThumbDown(_) => at_deadline(due),
-        Input::ThumbUp(_) => at_deadline(due),
-        Input::FunctionDown => Turns::Never,
-        Input::Tick => at_deadline(due),
+        Input::FunctionDown => Turns::None,
+        _ => at_deadline(due),
     }
 }
 
-fn turns_in_s7(due: Due, v: Stamp, w: Stamp, key: Key, second: Key, input: Input) -> Turns
+#[tactic(auto, unfolding(rules::specs::OneEvent::same_key))]
+fn turns_in_s7(due: Option<Stamp>, v: Stamp, w: Stamp, key: Key, second: Key, input: Input) -> Turns
     ensures { stamps result ≡ turns_in_S7 (when due) v w key second input }
 {
     match input {
-        Input::CharacterDown(_) => at_or_late(v, due),
-        Input::CharacterUp(n) => {
-            if same_key(n, key) {
-                at_or_late(w, due)
-            } else {
-                if same_key(n, second) {
-                    Turns::Never
-                } else {
-                    at_deadline(due)
-                }
-            }
-        }
-        Input::ThumbDown(_) => at_or_late(v, due),
-        Input::ThumbUp(_) => at_deadline(due),
-        Input::FunctionDown => Turns::Never,
-        Input::Tick => at_deadline(due),
+        Input::CharacterDown(_) | Input::ThumbDown(_) => at_or_late(v, due),
+        Input::CharacterUp(n) if n == key => at_or_late(w, due),
+        Input::CharacterUp(n) if n == second => Turns::None,
+        Input::FunctionDown => Turns::None,
+        _ => at_deadline(due),
     }
 }
 
-fn turns_in_s8(list: &[u32], due: Due, v: Stamp, w: Stamp, second: Key, input: Input) -> Turns
+#[tactic(auto, unfolding(rules::specs::OneEvent::same_key))]
+fn turns_in_s8(
+    list: &[u32],
+    due: Option<Stamp>,
+    v: Stamp,
+    w: Stamp,
+    second: Key,
+    input: Input,
+) -> Turns
     ensures { stamps result ≡ turns_in_S8 (pairs_in list.now) (when due) v w second input }
 {
     match input {
-        Input::CharacterDown(n) => {
-            if is_pair(list, second, n) {
-                at_and_late(v, due, at_deadline(due))
-            } else {
-                at_and_late(v, due, Turns::Never)
-            }
-        }
-        Input::CharacterUp(n) => {
-            if same_key(n, second) {
-                at_or_late(w, due)
-            } else {
-                at_deadline(due)
-            }
-        }
-        Input::ThumbDown(_) => at_and_late(v, due, at_deadline(due)),
-        Input::ThumbUp(_) => at_deadline(due),
-        Input::FunctionDown => at_deadline(due),
-        Input::Tick => at_deadline(due),
+        Input::CharacterDown(n) if !is_pair(list, second, n) => at_and_late(v, due, Turns::None),
+        Input::CharacterDown(_) | Input::ThumbDown(_) => at_and_late(v, due, at_deadline(due)),
+        Input::CharacterUp(n) if n == second => at_or_late(w, due),
+        _ => at_deadline(due),
     }
 }
 
@@ -398,28 +262,22 @@ fn parts_before(m: Stamp, k: Stamp) -> Stamp
     later(later(k, lag(m, k)), Lag(1))
 }
 
-// The overlap that is N percent of the whole: FJ with N for J.
+// The overlap that is N percent of the whole.
 fn short_before(n: u8, m: Stamp, k: Stamp) -> Stamp
     ensures { result ≡ short_at_most n m k }
 {
-    let by_n = Settings {
-        t: 0,
-        j: n,
-        l: 0,
-        solo: 0,
-    };
-    later(k, character_first_wait(by_n, lag(m, k)))
+    later(k, together(lag(m, k), n))
 }
 
 // The time of which an overlap x is L percent, 100x/L, rounded down.
+#[tactic(auto, unfolding(waits::specs::Capped::lag_at_most))]
 fn whole_of(x: Lag, l: u8) -> Lag
     ensures { result.0 ≡ (100 * lag_at_most x.0) / l }
 {
-    let bounded = shorter(x, Lag(1_000_000_000_000));
     if l == 0 {
         return Lag(0);
     }
-    Lag(100 * bounded.0 / (l as u64))
+    Lag(100 * x.0.min(Machine::LARGEST.0) / (l as u64))
 }
 
 // A millisecond behind the stamp at which the overlap is L percent of the time that K was down.
@@ -431,18 +289,17 @@ fn share_before(l: u8, k: Stamp, r: Stamp) -> Stamp
 
 // The turning stamps of a state and an event, with the state's deadline.
 pub fn turnings(
-    list: &[u32],
-    times: Times,
+    given: Lent<'_>,
     s: Settings,
-    due: Due,
+    due: Option<Stamp>,
     resting: Resting,
     input: Input,
 ) -> Turns
-    ensures { stamps result ≡ turns_at_most (lent list.now times) s (when due) resting input }
+    ensures { stamps result ≡ turns_at_most (lent_by given.entry) s (when due) resting input }
 {
     match resting {
-        Resting::S1 => Turns::Never,
-        Resting::S2(key, _) => turns_in_s2(list, due, key, input),
+        Resting::S1 => Turns::None,
+        Resting::S2(key, _) => turns_in_s2(given.list, due, key, input),
         Resting::S3(thumb, _) => turns_in_s3(due, thumb, input),
         Resting::S4(key, m, thumb, o) => {
             turns_in_s4(
@@ -464,12 +321,12 @@ pub fn turnings(
                 input,
             )
         }
-        Resting::S6(_, _, _, _, _) => turns_in_s6(due, input),
+        Resting::S6(..) => turns_in_s6(due, input),
         Resting::S7(key, m, second, k) => {
             turns_in_s7(
                 due,
                 parts_before(m, k),
-                short_before(times.n, m, k),
+                short_before(given.times.n, m, k),
                 key,
                 second,
                 input,
@@ -477,7 +334,7 @@ pub fn turnings(
         }
         Resting::S8(_, m, second, k, r) => {
             turns_in_s8(
-                list,
+                given.list,
                 due,
                 parts_before(m, k),
                 share_before(s.l, k, r),
@@ -494,82 +351,44 @@ pub fn began(resting: Resting) -> Stamp
 {
     match resting {
         Resting::S1 => Stamp(0),
-        Resting::S2(_, m) => m,
-        Resting::S3(_, o) => o,
-        Resting::S4(_, _, _, o) => o,
-        Resting::S5(_, _, _, m) => m,
-        Resting::S6(_, _, _, _, r) => r,
-        Resting::S7(_, _, _, k) => k,
-        Resting::S8(_, _, _, _, r) => r,
+        Resting::S2(_, at)
+        | Resting::S3(_, at)
+        | Resting::S4(_, _, _, at)
+        | Resting::S5(_, _, _, at)
+        | Resting::S6(_, _, _, _, at)
+        | Resting::S7(_, _, _, at)
+        | Resting::S8(_, _, _, _, at) => at,
     }
 }
 
 // The first turning stamp behind a stamp.
-pub fn next_turn(at: Stamp, turns: Turns) -> Due
+pub fn next_turn(at: Stamp, turns: Turns) -> Option<Stamp>
     ensures { when result ≡ next_turn at (stamps turns) }
 {
     match turns {
-        Turns::Never => Due::Never,
-        Turns::Once(v) => {
-            if at_or_before(v, at) {
-                Due::Never
-            } else {
-                Due::At(v)
-            }
-        }
-        Turns::Twice(v, w) => {
-            if at_or_before(v, at) {
-                if at_or_before(w, at) {
-                    Due::Never
-                } else {
-                    Due::At(w)
-                }
-            } else {
-                Due::At(v)
-            }
-        }
+        Turns::One(v) | Turns::Two(v, _) if at < v => Some(v),
+        Turns::Two(_, w) if at < w => Some(w),
+        _ => None,
     }
 }
 
 // The last turning stamp at or before a stamp.
-pub fn last_turn(at: Stamp, turns: Turns) -> Due
+pub fn last_turn(at: Stamp, turns: Turns) -> Option<Stamp>
     ensures { when result ≡ last_turn at (stamps turns) }
 {
     match turns {
-        Turns::Never => Due::Never,
-        Turns::Once(v) => {
-            if at_or_before(v, at) {
-                Due::At(v)
-            } else {
-                Due::Never
-            }
-        }
-        Turns::Twice(v, w) => {
-            if at_or_before(v, at) {
-                if at_or_before(w, at) {
-                    Due::At(w)
-                } else {
-                    Due::At(v)
-                }
-            } else {
-                Due::Never
-            }
-        }
+        Turns::Two(v, w) if v <= at && w <= at => Some(w),
+        Turns::One(v) | Turns::Two(v, _) if v <= at => Some(v),
+        _ => None,
     }
 }
 
 // The nearest stamp before the last turning stamp, unless that is before the state began.
-pub fn sooner_at(start: Stamp, last: Due) -> Due
+pub fn sooner_at(start: Stamp, last: Option<Stamp>) -> Option<Stamp>
     ensures { when result ≡ sooner_at start (when last) }
 {
     match last {
-        Due::Never => Due::Never,
-        Due::At(v) => {
-            if v.0 <= start.0 {
-                Due::Never
-            } else {
-                Due::At(Stamp(v.0 - 1))
-            }
-        }
+        Some(v) if start < v => Some(Stamp(v.0 - 1)),
+        _ => None,
     }
 }

@@ -5,10 +5,10 @@
 ghost use Rattle.std.specs.Prelude.{◌≡◌, leb, length};
 ghost use Rattle.rules.specs.Pairs.{pairs_most, names, is_of, pair_of, is_pair, pair_character, in_some_pair};
 ghost use Rattle.rules.specs.Pairs.{none_twice, is_pair_character, pair_good, each_good, lent_good};
-ghost use Rattle.pairs.specs.Lent.{pair_in, pairs_in, lent, paired};
+ghost use Rattle.pairs.specs.Lent.{pair_in, pairs_in, lent_by, paired};
 
 use rules::Key;
-use waits::{is_key, same_key};
+use waits::is_key;
 
 // So many pairs are accepted.
 pub const PAIRS_MOST: usize = 64;
@@ -29,11 +29,11 @@ pub struct Times {
     pub n: u8,
 }
 
-// The character that a list gives two keys, if they are a pair.
+// What is lent to the events of a keyboard: a list of pairs, T_s and N.
 #[derive(Clone, Copy)]
-pub enum Paired {
-    None,
-    Some(u16),
+pub struct Lent<'a> {
+    pub list: &'a [u32],
+    pub times: Times,
 }
 
 fn first(word: u32) -> Key
@@ -54,126 +54,87 @@ fn character(word: u32) -> u16
     (word & 0xFFFF) as u16
 }
 
+#[tactic(auto, unfolding(rules::specs::Pairs::names, rules::specs::Pairs::same_key))]
 fn names(word: u32, a: Key, b: Key) -> bool
     ensures { result ≡ names (pair_in word) a b }
 {
-    same_key(first(word), a) && same_key(second(word), b)
+    first(word) == a && second(word) == b
 }
 
+#[tactic(auto, unfolding(rules::specs::Pairs::is_of))]
 fn is_of(word: u32, a: Key, b: Key) -> bool
     ensures { result ≡ is_of (pair_in word) a b }
 {
     names(word, a, b) || names(word, b, a)
 }
 
-pub fn pair_of(list: &[u32], a: Key, b: Key) -> Paired
+pub fn pair_of(list: &[u32], a: Key, b: Key) -> Option<u16>
     ensures { paired result ≡ pair_of (pairs_in list.now) a b }
 {
-    let mut i = 0;
-    while i < list.len() {
-        let word = list[i];
-        if is_of(word, a, b) {
-            return Paired::Some(character(word));
+    for word in list {
+        if is_of(*word, a, b) {
+            return Some(character(*word));
         }
-        i += 1;
     }
-    Paired::None
+    None
 }
 
 pub fn is_pair(list: &[u32], a: Key, b: Key) -> bool
     ensures { result ≡ is_pair (pairs_in list.now) a b }
 {
-    match pair_of(list, a, b) {
-        Paired::None => false,
-        Paired::Some(_) => true,
-    }
+    pair_of(list, a, b).is_some()
 }
 
 // The character that a list gives two keys, 0 where they are no pair.
 pub fn pair_character(list: &[u32], a: Key, b: Key) -> u16
     ensures { result ≡ pair_character (pairs_in list.now) a b }
 {
-    match pair_of(list, a, b) {
-        Paired::None => 0,
-        Paired::Some(c) => c,
-    }
+    pair_of(list, a, b).unwrap_or(0)
 }
 
 pub fn in_some_pair(list: &[u32], k: Key) -> bool
     ensures { result ≡ in_some_pair (pairs_in list.now) k }
 {
-    let mut i = 0;
-    while i < list.len() {
-        let word = list[i];
-        if same_key(first(word), k) {
-            return true;
-        }
-        if same_key(second(word), k) {
-            return true;
-        }
-        i += 1;
-    }
-    false
+    list.iter()
+        .any(|word| first(*word) == k || second(*word) == k)
 }
 
 fn none_twice(list: &[u32]) -> bool
     ensures { result ≡ none_twice (pairs_in list.now) }
 {
-    let mut i = 0;
-    while i < list.len() {
-        let word = list[i];
-        i += 1;
-        let rest = &list[i..];
-        if is_pair(rest, first(word), second(word)) {
+    let mut rest = list;
+    while let Some((word, behind)) = rest.split_first() {
+        if is_pair(behind, first(*word), second(*word)) {
             return false;
         }
+        rest = behind;
     }
     true
 }
 
+#[tactic(auto, unfolding(rules::specs::Pairs::is_pair_character))]
 fn is_pair_character(c: u16) -> bool
     ensures { result ≡ is_pair_character c }
 {
-    if c < 0x20 {
-        return false;
-    }
-    if c < 0xD800 {
-        return true;
-    }
-    0xDFFF < c
+    (0x20..=0xFFFF).contains(&c) && !(0xD800..=0xDFFF).contains(&c)
 }
 
+#[tactic(auto, unfolding(rules::specs::Pairs::pair_good, rules::specs::Pairs::same_key))]
 fn pair_good(word: u32) -> bool
     ensures { result ≡ pair_good (pair_in word) }
 {
     let x = first(word);
     let y = second(word);
-    if same_key(x, y) {
-        return false;
-    }
-    if !is_key(x) {
-        return false;
-    }
-    if !is_key(y) {
-        return false;
-    }
-    is_pair_character(character(word))
+    x != y && is_key(x) && is_key(y) && is_pair_character(character(word))
 }
 
 fn each_good(list: &[u32]) -> bool
     ensures { result ≡ each_good (pairs_in list.now) }
 {
-    let mut i = 0;
-    while i < list.len() {
-        let word = list[i];
-        if !pair_good(word) {
-            return false;
-        }
-        i += 1;
-    }
-    true
+    list.iter().all(|word| pair_good(*word))
 }
 
+#[tactic(auto, using(crate::proofs::Laws::length_pairs))]
 fn few(list: &[u32]) -> bool
     ensures { result ≡ leb (length (pairs_in list.now)) pairs_most }
 {
@@ -181,26 +142,13 @@ fn few(list: &[u32]) -> bool
 }
 
 // Whether what is lent is accepted; else the refusal is 12.
-pub fn lent_good(list: &[u32], times: Times) -> bool
-    ensures { result ≡ lent_good (lent list.now times) }
+#[tactic(auto, unfolding(rules::specs::Pairs::lent_good))]
+pub fn lent_good(given: Lent<'_>) -> bool
+    ensures { result ≡ lent_good (lent_by given.entry) }
 {
-    if !few(list) {
-        return false;
-    }
-    if !none_twice(list) {
-        return false;
-    }
-    if !each_good(list) {
-        return false;
-    }
-    if times.ts < T_S_LEAST {
-        return false;
-    }
-    if T_S_MOST < times.ts {
-        return false;
-    }
-    if times.n < N_LEAST {
-        return false;
-    }
-    times.n <= N_MOST
+    few(given.list)
+        && none_twice(given.list)
+        && each_good(given.list)
+        && (T_S_LEAST..=T_S_MOST).contains(&given.times.ts)
+        && (N_LEAST..=N_MOST).contains(&given.times.n)
 }

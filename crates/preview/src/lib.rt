@@ -11,7 +11,7 @@ use layout::word;
 use rules::{Face, Items, Key, Resting};
 
 // Up to four signs as words, in order: a character's code point, 1 for the left mark, 2 for the right one. They are packed to
-// the front, 0 behind the last.
+// the front, 0 behind the last. They are four fields, since a host in C is given them as fields (`packed`, `answer_numbers`).
 #[derive(Clone, Copy)]
 pub struct Signs {
     pub first: u16,

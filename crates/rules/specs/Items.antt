@@ -1,10 +1,9 @@
--- The items that a step commits, as a list.
+-- What a step commits, as a list: up to two items or words, in order.
 use Rattle.std.specs.Prelude.{List, [], ◌∷◌}
-use Rattle.rules.specs.declared.Item.{Item}
-use Rattle.rules.specs.declared.Items.{Items}
-use Rattle.rules.specs.declared.Items.TheVariants.{None, One, Two}
+use Rattle.rules.specs.declared.Few.{Few}
+use Rattle.rules.specs.declared.Few.TheVariants.{None, One, Two}
 
-abbrev pub listed : Items → List Item
+abbrev pub listed : {A : Type 0} → Few A → List A
 listed None = []
 listed (One i) = i ∷ []
 listed (Two i j) = i ∷ j ∷ []

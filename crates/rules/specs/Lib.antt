@@ -21,3 +21,4 @@ pub mod DistanceFacts
 pub mod MovedClock
 pub mod Before
 pub mod Examples
+pub mod Refusal

@@ -1,7 +1,7 @@
 -- Document 01, "Resting states": deadlines, the fresh state and well-formedness.
 -- In every state M is a character key pressed at m, K a second one pressed at k, O a thumb pressed at o; r is the release of the
 -- thumb in S6, of M in S8. g is what is lent (9/12).
-use Rattle.std.specs.Prelude.{ℕ, ◌+◌, ◌-◌, min, Bool, true, ◌&&◌, ltb, leb, eqb}
+use Rattle.std.specs.Prelude.{ℕ, ◌+◌, ◌-◌, min, Bool, true, ◌&&◌, ltb, leb, eqb, Result, Ok, Err}
 use Rattle.std.proofs.Math.Option.{Option, none, some}
 use Rattle.choice.specs.Choice.{if◌then◌orelse◌}
 use Rattle.rules.specs.Numbers.{keys, largest_stamp, in_range, B, FJ, FL}
@@ -13,8 +13,8 @@ use Rattle.rules.specs.declared.Settings.{Settings}
 use Rattle.rules.specs.declared.Resting.{Resting}
 use Rattle.rules.specs.declared.Resting.TheVariants.{S1, S2, S3, S4, S5, S6, S7, S8}
 use Rattle.rules.specs.declared.Machine.{Machine}
-use Rattle.rules.specs.declared.Opened.{Opened}
-use Rattle.rules.specs.declared.Opened.TheVariants.{OutOfRange, Ready}
+use Rattle.rules.specs.declared.Refusal.{Refusal}
+use Rattle.rules.specs.Refusal.{number_of}
 
 -- the stamp of a number of milliseconds
 abbrev pub at : ℕ → Stamp
@@ -113,6 +113,6 @@ unfoldable pub opening : Settings → Opening
 opening s = if in_range s then record { number = 0; machine = some (fresh s) } orelse record { number = 1; machine = none }
 
 -- what the cases of the answer of `Machine::open` say
-abbrev pub opened : Opened → Opening
-opened OutOfRange = record { number = 1; machine = none }
-opened (Ready m) = record { number = 0; machine = some m }
+abbrev pub opened : Result Machine Refusal → Opening
+opened (Err e) = record { number = number_of e; machine = none }
+opened (Ok m) = record { number = 0; machine = some m }

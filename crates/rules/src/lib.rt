@@ -5,22 +5,23 @@
 ghost use Rattle.std.specs.Prelude.{◌≡◌};
 ghost use Rattle.rules.specs.Numbers.{in_range};
 ghost use Rattle.rules.specs.States.{opening, opened};
+ghost use Rattle.rules.specs.Refusal.{number_of, KindOf};
 
 // A moment of the keyboard's clock, in milliseconds. There is no type for another clock: a number from elsewhere can enter
 // only through this one.
 #[repr(C)]
-#[derive(Clone, Copy)]
+#[derive(Clone, Copy, PartialEq, Eq, PartialOrd, Ord)]
 pub struct Stamp(pub u64);
 
 // The milliseconds from one stamp to a later one.
-#[derive(Clone, Copy)]
+#[derive(Clone, Copy, PartialEq, Eq, PartialOrd, Ord)]
 pub struct Lag(pub u64);
 
 // The number of a key: a character key's; 0 and 1 for the left and the right thumb key; 0 for the function key and a tick.
-#[derive(Clone, Copy)]
+#[derive(Clone, Copy, PartialEq, Eq, PartialOrd, Ord)]
 pub struct Key(pub u8);
 
-#[derive(Clone, Copy)]
+#[derive(Clone, Copy, PartialEq, Eq)]
 pub enum Thumb {
     Left,
     Right,
@@ -81,13 +82,16 @@ pub enum Item {
     Together(Key, Key, u16),
 }
 
-// The items that a step commits, in order.
+// Up to two of a kind, in order: the items that a step commits, or their words.
 #[derive(Clone, Copy)]
-pub enum Items {
+pub enum Few<T> {
     None,
-    One(Item),
-    Two(Item, Item),
+    One(T),
+    Two(T, T),
 }
+
+// The items that a step commits.
+pub type Items = Few<Item>;
 
 // An event as it arrives: any kind, any key, any stamp.
 #[derive(Clone, Copy)]
@@ -108,12 +112,61 @@ pub enum Input {
     Tick,
 }
 
-// The answer of `Machine::open`.
-#[derive(Clone, Copy)]
-pub enum Opened {
-    // Refusal 1.
-    OutOfRange,
-    Ready(Machine),
+// Why something is refused, by the numbers that are given back.
+#[derive(Clone, Copy, PartialEq, Eq)]
+pub enum Refusal {
+    SettingsOutOfRange = 1,
+    NotWellFormed = 2,
+    KeyNotAllowed = 3,
+    AboveLargest = 4,
+    BeforeLast = 5,
+    Cut = 6,
+    WrongRecord = 7,
+    NoRoom = 8,
+    TooLong = 9,
+    OnNoFace = 10,
+    TooManyHeld = 11,
+    ListNotGood = 12,
+    NoKeyboard = 13,
+    ListInOpinion = 14,
+}
+
+impl Refusal {
+    // Its number.
+    pub fn number(self) -> u8
+        ensures { result ≡ number_of self }
+    {
+        self as u8
+    }
+}
+
+// The kinds of events, by their numbers.
+#[derive(Clone, Copy, PartialEq, Eq)]
+pub enum Kind {
+    CharacterDown = 1,
+    CharacterUp = 2,
+    ThumbDown = 3,
+    ThumbUp = 4,
+    FunctionDown = 5,
+    Tick = 6,
+}
+
+impl TryFrom<u8> for Kind {
+    type Error = Refusal;
+
+    ghost try_from_gives = { KindOf };
+
+    fn try_from(number: u8) -> Result<Kind, Refusal> {
+        match number {
+            1 => Ok(Kind::CharacterDown),
+            2 => Ok(Kind::CharacterUp),
+            3 => Ok(Kind::ThumbDown),
+            4 => Ok(Kind::ThumbUp),
+            5 => Ok(Kind::FunctionDown),
+            6 => Ok(Kind::Tick),
+            _ => Err(Refusal::KeyNotAllowed),
+        }
+    }
 }
 
 impl Settings {
@@ -132,25 +185,11 @@ impl Settings {
     pub fn in_range(self) -> bool
         ensures { result ≡ in_range self }
     {
-        if self.t < Settings::T_LEAST {
-            return false;
-        }
-        if Settings::T_MOST < self.t {
-            return false;
-        }
-        if self.j < Settings::PERCENT_LEAST {
-            return false;
-        }
-        if Settings::PERCENT_MOST < self.j {
-            return false;
-        }
-        if self.l < Settings::PERCENT_LEAST {
-            return false;
-        }
-        if Settings::PERCENT_MOST < self.l {
-            return false;
-        }
-        self.solo <= 1
+        let percents = Settings::PERCENT_LEAST..=Settings::PERCENT_MOST;
+        (Settings::T_LEAST..=Settings::T_MOST).contains(&self.t)
+            && percents.contains(&self.j)
+            && percents.contains(&self.l)
+            && self.solo <= 1
     }
 }
 
@@ -163,17 +202,17 @@ impl Machine {
     pub const LARGEST: Stamp = Stamp(1_000_000_000_000);
 
     // A fresh machine: nothing rests, the last stamp counts as 0, and no key is held.
-    pub fn open(settings: Settings) -> Opened
+    pub fn open(settings: Settings) -> Result<Machine, Refusal>
         ensures { opened result ≡ opening settings }
     {
-        if settings.in_range() {
-            return Opened::Ready(Machine {
-                settings: settings,
-                resting: Resting::S1,
-                last: Stamp(0),
-                held: 0,
-            });
+        if !settings.in_range() {
+            return Err(Refusal::SettingsOutOfRange);
         }
-        Opened::OutOfRange
+        Ok(Machine {
+            settings,
+            resting: Resting::S1,
+            last: Stamp(0),
+            held: 0,
+        })
     }
 }

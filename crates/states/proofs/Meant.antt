@@ -2,45 +2,43 @@
 use Prim.Native.Nat.{ℕ}
 use mathlib.Core.Bool.{Bool, true, false}
 use mathlib.Core.Option.{none, some, none-ne-some, some-injective}
-use mathlib.Core.Path.{◌≡◌}
+use mathlib.Core.Path.{◌≡◌, refl, sym, ◌∙◌}
 use borrow.Author.Tests.{ne_eqb}
 use lib.Dec.{eqb}
 use Rattle.choice.specs.Choice.{if◌then◌orelse◌}
 use Rattle.rules.specs.States.{is_key}
 use Rattle.rules.specs.GivenBack.{input}
+use Rattle.rules.specs.Refusal.{kind_number}
 use Rattle.rules.specs.declared.Key.{Key}
+use Rattle.rules.specs.declared.Kind.{Kind}
+use Rattle.rules.specs.declared.Kind.TheVariants as kinds
 use Rattle.rules.specs.declared.Thumb.{Thumb}
 use Rattle.rules.specs.declared.Thumb.TheVariants.{Left, Right}
 use Rattle.rules.specs.declared.Input.{Input}
 use Rattle.rules.specs.declared.Input.TheVariants.{CharacterDown, CharacterUp, ThumbDown, ThumbUp, FunctionDown, Tick}
-use Rattle.states.specs.Meant.{thumb_of, meant, MeantIsInput}
+use Rattle.states.specs.Meant.{thumb_of, meant, meant_by_number, MeantIsInput, MeantByNumberIsInput}
 
-module _ (kind : ℕ) (k : Key) where
-  pub meant_1 : kind ≡ 1 → meant kind k ≡ CharacterDown k
-  unfolding meant
-  meant_1 h = rw h
+-- a kind and its number mean the same
+pub by_number : (kind : Kind) (k : Key) → meant_by_number (kind_number kind) k ≡ meant kind k
+unfolding meant_by_number
+by_number kinds.CharacterDown k = refl
+by_number kinds.CharacterUp k = refl
+by_number kinds.ThumbDown k = refl
+by_number kinds.ThumbUp k = refl
+by_number kinds.FunctionDown k = refl
+by_number kinds.Tick k = refl
 
-  pub meant_2 : kind ≡ 2 → meant kind k ≡ CharacterUp k
-  unfolding meant
-  meant_2 h = rw h
-
-  pub meant_3 : kind ≡ 3 → meant kind k ≡ ThumbDown (thumb_of k)
-  unfolding meant
-  meant_3 h = rw h
-
-  pub meant_4 : kind ≡ 4 → meant kind k ≡ ThumbUp (thumb_of k)
-  unfolding meant
-  meant_4 h = rw h
-
-  pub meant_5 : kind ≡ 5 → meant kind k ≡ FunctionDown
-  unfolding meant
-  meant_5 h = rw h
-
-  -- none of the arms before the last, as the code has it there
-  pub meant_tick : ((((Unit {0} × (kind ≡ 1 → ⊥)) × (kind ≡ 2 → ⊥)) × (kind ≡ 3 → ⊥)) × (kind ≡ 4 → ⊥)) × (kind ≡ 5 → ⊥)
-      → meant kind k ≡ Tick
-  unfolding meant
-  meant_tick (((((u, a), b), c), d), e) = rw (ne_eqb kind 1 a, ne_eqb kind 2 b, ne_eqb kind 3 c, ne_eqb kind 4 d, ne_eqb kind 5 e)
+-- a number that is no kind's means a tick
+pub no_kind : (n : ℕ) (k : Key) → ((kind : Kind) → n ≡ kind_number kind → ⊥) → meant_by_number n k ≡ Tick
+unfolding meant_by_number
+no_kind n k other =
+    rw (
+      ne_eqb n 1 (other kinds.CharacterDown),
+      ne_eqb n 2 (other kinds.CharacterUp),
+      ne_eqb n 3 (other kinds.ThumbDown),
+      ne_eqb n 4 (other kinds.ThumbUp),
+      ne_eqb n 5 (other kinds.FunctionDown),
+    )
 
 -- a key that is allowed, and a thumb that is
 one_way : (t : Bool) (a i : Input) → (if t then some a orelse none) ≡ some i → a ≡ i
@@ -71,6 +69,9 @@ module _ (k : Key) (i : Input) where
   by_kinds false false false false false true e = one_way (eqb k.0 0) _ i e
   by_kinds false false false false false false e = absurd (none-ne-some i e)
 
+pub meant_by_number_is_input : MeantByNumberIsInput
+unfolding input meant_by_number
+meant_by_number_is_input kind k i e = by_kinds k i (eqb kind 1) (eqb kind 2) (eqb kind 3) (eqb kind 4) (eqb kind 5) (eqb kind 6) e
+
 pub meant_is_input : MeantIsInput
-unfolding input meant
-meant_is_input kind k i e = by_kinds k i (eqb kind 1) (eqb kind 2) (eqb kind 3) (eqb kind 4) (eqb kind 5) (eqb kind 6) e
+meant_is_input kind k i e = sym (by_number kind k) ∙ meant_by_number_is_input (kind_number kind) k i e

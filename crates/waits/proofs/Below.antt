@@ -26,10 +26,6 @@ up_above n d k h i = go (dec_le (k + 1) ((n + (d - 1)) / d))
     go (yes j) = j
     go (no j) = absurd (omega (arith, (div-lt_iff_lt-mul h).0 (lt_of_not-le j), add-mul k 1 d, one-mul d))
 
--- the ways through `share_below`
-pub below_0 : (a y : ℕ) → y ≡ 0 → false ≡ ltb a y
-below_0 a y e = sym (le-ltb a y (omega arith))
-
 pub below_by_0 : (n d y : ℕ) → (y ≡ 0 → ⊥) → d ≡ 0 → true ≡ ltb (up n d) y
 unfolding up
 below_by_0 n d zero h e = absurd (h (omega arith))
@@ -53,20 +49,6 @@ module _ (n d y : ℕ) (some : y ≡ 0 → ⊥) (by : d ≡ 0 → ⊥) where
       go : (t : Bool) → leb n ((y - 1) * d) ≡ t → t ≡ ltb (up n d) y
       go true e = sym (lt-ltb (up n d) y (omega (arith, up_below n d (y - 1) (positive d by) (leb-true n _ e), positive y some)))
       go false e = sym (le-ltb (up n d) y (omega (arith, up_above n d (y - 1) (positive d by) (leb-false n _ e), positive y some)))
-
--- the ways through `since`
-module _ (a b : Stamp) where
-  pub since_before : b.0 < largest_number → b.0 < a.0 → 0 ≡ since_at_most a b
-  unfolding since_at_most
-  since_before h i = rw (lt-ltb b.0 largest_number h) (omega arith)
-
-  pub since_past : b.0 < largest_number → b.0 + 1 - a.0 ≡ since_at_most a b
-  unfolding since_at_most
-  since_past h = rw (lt-ltb b.0 largest_number h)
-
-  pub since_full : largest_number ≤ b.0 → largest_number ≡ since_at_most a b
-  unfolding since_at_most
-  since_full h = rw (le-ltb b.0 largest_number h)
 
 -- a wait from a stamp on is over where it is below the time since then
 pub over_since : (a now : Stamp) (x : ℕ) → a.0 ≤ largest_number → x < largest_number

@@ -1,16 +1,15 @@
 -- Bounds of sums and waits, and where the bounds of `Capped` are not met.
 use mathlib.Core.Path.{◌≡◌, ap, sym, ◌∙◌}
-use mathlib.Core.Bool.{false, ◌&&◌, and-true, and-false}
+use mathlib.Core.Bool.{◌&&◌, and-true}
 use Prim.Native.Nat.{ℕ, zero, suc, ◌+◌, ◌-◌, ◌*◌, ◌/◌, ◌≤◌, ◌<◌, ◌^◌, max}
 use native.Mathlib.Nat.{mul-le-mul, div-le_self, min-le_right, min-eq_left, min-eq_right, max-le, zero-mul, suc-mul, lt_of_not-le, le_of_lt}
 use native.Mathlib.Omega.{arith}
 use native.Mathlib.Decide.{dec_le}
 use lib.Dec.{ltb, lit≤}
-use borrow.Author.Tests.{lt-ltb, le-ltb}
+use borrow.Author.Tests.{lt-ltb}
 use Rattle.rules.specs.Numbers.{largest_stamp, up, A, B, FJ, FL, D, X, W}
 use Rattle.rules.specs.Pairs.{GN}
 use Rattle.rules.specs.States.{at, later}
-use Rattle.rules.specs.OneEvent.{short_overlap}
 use Rattle.rules.specs.declared.Stamp.{Stamp}
 use Rattle.rules.specs.declared.Settings.{Settings}
 use Rattle.waits.specs.Capped.{largest_number, later_at_most, lag_at_most}
@@ -19,11 +18,6 @@ use Rattle.waits.specs.Capped.{largest_number, later_at_most, lag_at_most}
 pub later_fits : (a : Stamp) (x : ℕ) → a.0 + x ≤ largest_number → later_at_most a x ≡ later a x
 unfolding later_at_most
 later_fits a x h = ap at (min-eq_left h)
-
--- a sum that is not is the largest number
-pub later_full : (a : Stamp) (x : ℕ) → largest_number ≤ a.0 + x → later_at_most a x ≡ at largest_number
-unfolding later_at_most
-later_full a x h = ap at (min-eq_right h)
 
 -- a lag up to the largest stamp is itself
 pub lag_fits : (x : ℕ) → x ≤ largest_stamp → lag_at_most x ≡ x
@@ -112,23 +106,10 @@ in_share p a b h (no i) =
     rw (lag_full a (le_of_lt j)) (long_gaps p largest_stamp a b h (lit≤ tt) (omega arith))
 
 -- a gap at the bound decides as every longer one
-pub short_at_most : (p a b : ℕ) → b < 400 → ltb (100 * b) (p * (lag_at_most a + b)) ≡ short_overlap p a b
-unfolding short_overlap
-short_at_most p a b h =
-    in_share p a b (omega arith) (dec_le a largest_stamp) ∙ sym (rw (lt-ltb b 400 h) (and-true (ltb (100 * b) (p * (a + b)))))
-
-pub not_short : (p a b : ℕ) → 400 ≤ b → false ≡ short_overlap p a b
-unfolding short_overlap
-not_short p a b h = sym (rw (le-ltb b 400 h) (and-false (ltb (100 * b) (p * (a + b)))))
-
--- the same of two letters, with T_s for 400
 pub short_pair_at_most : (ts p a b : ℕ) → ts < 65_536 → b < ts
     → ltb (100 * b) (p * (lag_at_most a + b)) ≡ (ltb (100 * b) (p * (a + b)) && ltb b ts)
 short_pair_at_most ts p a b two h =
     in_share p a b (omega arith) (dec_le a largest_stamp) ∙ sym (rw (lt-ltb b ts h) (and-true (ltb (100 * b) (p * (a + b)))))
-
-pub not_short_pair : (ts p a b : ℕ) → ts ≤ b → false ≡ (ltb (100 * b) (p * (a + b)) && ltb b ts)
-not_short_pair ts p a b h = sym (rw (le-ltb b ts h) (and-false (ltb (100 * b) (p * (a + b)))))
 
 -- what the test of an overlap multiplies
 pub overlap_product : {p x b : ℕ} → p < 256 → x ≤ largest_stamp → b < 65_536 → p * (x + b) ≤ 255 * (largest_stamp + 65_536)

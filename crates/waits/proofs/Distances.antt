@@ -2,7 +2,7 @@
 use mathlib.Core.Path.{◌≡◌, refl, ap, subst, sym}
 use mathlib.Core.Bool.{Bool, true, false, cond}
 use Prim.Native.Nat.{ℕ, suc, ◌-◌, ◌≤◌, min}
-use native.Mathlib.Nat.{min-le_right, min-eq_left, min-eq_right}
+use native.Mathlib.Nat.{min-le_right, min-eq_left}
 use native.Mathlib.Omega.{arith}
 use lib.Dec.{ltb}
 use lib.IntN.{ℤ, pos, negsuc, sub_ℕ, ◌-ℤ◌}
@@ -17,10 +17,6 @@ use Rattle.waits.specs.Capped.{largest_signed, signed_at_most, distance_at_most}
 pub signed_fits : (a : Stamp) → a.0 ≤ largest_signed → signed_at_most a ≡ pos a.0
 unfolding signed_at_most
 signed_fits a h = ap pos (min-eq_left h)
-
-pub signed_full : (a : Stamp) → largest_signed ≤ a.0 → signed_at_most a ≡ pos largest_signed
-unfolding signed_at_most
-signed_full a h = ap pos (min-eq_right h)
 
 pub signed_holds : (a : Stamp) → SFits w64 (signed_at_most a)
 unfolding signed_at_most

@@ -3,3 +3,4 @@ pub mod Distances
 pub mod Halving
 pub mod Below
 pub mod Digits
+pub mod Order

@@ -1,6 +1,6 @@
 -- What the functions of this crate answer where document 01's number might not fit: the bounds of a sum, of a lag that is
 -- multiplied and of a stamp that is subtracted. In a machine that is well formed, at a stamp that it accepts, none is met.
-use Rattle.std.specs.Prelude.{ℕ, ◌+◌, ◌-◌, min, Bool, ltb, ℤ, pos, ◌-ℤ◌}
+use Rattle.std.specs.Prelude.{ℕ, ◌+◌, ◌-◌, min, ltb, ℤ, pos, ◌-ℤ◌}
 use Rattle.choice.specs.Choice.{if◌then◌orelse◌}
 use Rattle.rules.specs.Numbers.{largest_stamp}
 use Rattle.rules.specs.States.{at}
@@ -33,6 +33,3 @@ signed_at_most a = pos (min a.0 largest_signed)
 -- the signed count from now to d
 abbrev pub distance_at_most : Stamp → Stamp → ℤ
 distance_at_most now d = signed_at_most d -ℤ signed_at_most now
-
-abbrev pub is_before : Stamp → Stamp → Bool
-is_before a b = ltb a.0 b.0

@@ -6,24 +6,18 @@
 // a machine that is well formed, at a stamp that it accepts.
 #![tactic(auto)]
 
-ghost use Rattle.std.specs.Prelude.{◌≡◌, ◌&&◌, ◌+◌, ◌-◌, ◌*◌, ◌/◌, ◌%◌, ◌≤◌, ◌<◌, min, max, ltb};
+ghost use Rattle.std.specs.Prelude.{◌≡◌, ◌&&◌, ◌+◌, ◌-◌, ◌*◌, ◌/◌, ◌%◌, ◌≤◌, ◌<◌, min, ltb};
 ghost use Rattle.rules.specs.Numbers as Numbers;
 ghost use Rattle.rules.specs.Numbers.{largest_stamp, up};
-ghost use Rattle.rules.specs.States.{lag, at_or_before, is_key};
+ghost use Rattle.rules.specs.States.{lag, is_key};
 ghost use Rattle.rules.specs.Pairs.{GN};
-ghost use Rattle.rules.specs.OneEvent.{same_key, second_character_takes_thumb, second_thumb_takes_character, short_overlap};
+ghost use Rattle.rules.specs.OneEvent.{second_character_takes_thumb, second_thumb_takes_character, short_overlap};
 ghost use Rattle.rules.specs.OneEvent.{pair_stays, short_of};
 ghost use Rattle.waits.specs.Turns.{Above};
 ghost use Rattle.waits.specs.Digits.{digit};
-ghost use Rattle.waits.specs.Capped.{since_at_most, later_at_most, lag_at_most, signed_at_most, distance_at_most, is_before};
+ghost use Rattle.waits.specs.Capped.{since_at_most, later_at_most, lag_at_most, signed_at_most, distance_at_most};
 
 use rules::{Key, Lag, Machine, Settings, Stamp};
-
-// The largest number that a stamp can hold.
-const LARGEST_NUMBER: u64 = 18_446_744_073_709_551_615;
-
-// The largest number that a signed count can hold.
-const LARGEST_SIGNED: u64 = 9_223_372_036_854_775_807;
 
 // The lower 32 bits.
 const LOW_DIGIT: u64 = 0xFFFF_FFFF;
@@ -32,35 +26,23 @@ const LOW_DIGIT: u64 = 0xFFFF_FFFF;
 pub fn lag(from: Stamp, to: Stamp) -> Lag
     ensures { result.0 ≡ lag from to }
 {
-    let start = from.0;
-    let end = to.0;
-    if end < start {
-        return Lag(0);
-    }
-    Lag(end - start)
+    Lag(to.0.saturating_sub(from.0))
 }
 
 // The stamp a lag later.
+#[tactic(auto, unfolding(crate::specs::Capped::later_at_most))]
 pub fn later(from: Stamp, by: Lag) -> Stamp
     ensures { result ≡ later_at_most from by.0 }
 {
-    let start = from.0;
-    let more = by.0;
-    if LARGEST_NUMBER - start < more {
-        return Stamp(LARGEST_NUMBER);
-    }
-    Stamp(start + more)
+    Stamp(from.0.saturating_add(by.0))
 }
 
 // A stamp as a signed number, at most the largest of these.
+#[tactic(auto, unfolding(crate::specs::Capped::signed_at_most))]
 fn signed(stamp: Stamp) -> i64
     ensures { result ≡ signed_at_most stamp }
 {
-    let n = stamp.0;
-    if LARGEST_SIGNED < n {
-        return LARGEST_SIGNED as i64;
-    }
-    n as i64
+    stamp.0.min(i64::MAX as u64) as i64
 }
 
 // The milliseconds from now to another stamp, negative where that has passed.
@@ -70,90 +52,54 @@ pub fn distance(now: Stamp, to: Stamp) -> i64
     signed(to) - signed(now)
 }
 
-pub fn at_or_before(a: Stamp, b: Stamp) -> bool
-    ensures { result ≡ at_or_before a b }
-{
-    a.0 <= b.0
-}
-
-pub fn before(a: Stamp, b: Stamp) -> bool
-    ensures { result ≡ is_before a b }
-{
-    a.0 < b.0
-}
-
-// A lag, or a cap where that is shorter.
-pub fn shorter(x: Lag, cap: Lag) -> Lag
-    ensures { result.0 ≡ min x.0 cap.0 }
-{
-    if x.0 <= cap.0 {
-        return x;
-    }
-    cap
-}
-
-pub fn same_key(a: Key, b: Key) -> bool
-    ensures { result ≡ same_key a b }
-{
-    a.0 == b.0
-}
-
-pub fn lower_key(k: Key, most: Key) -> bool
-    ensures { result ≡ ltb k.0 most.0 }
-{
-    k.0 < most.0
-}
-
 pub fn is_key(k: Key) -> bool
     ensures { result ≡ is_key k }
 {
-    k.0 < Machine::KEYS.0
+    k < Machine::KEYS
 }
 
 // S4, a second character: it takes the thumb from the first where it is nearer to it.
 pub fn second_character_takes_thumb(a: Lag, b: Lag) -> bool
     ensures { result ≡ second_character_takes_thumb a.0 b.0 }
 {
-    b.0 < a.0
+    b < a
 }
 
 // S5, a second thumb: it takes the character from the first.
 pub fn second_thumb_takes_character(a: Lag, b: Lag) -> bool
     ensures { result ≡ second_thumb_takes_character a.0 b.0 }
 {
-    b.0 <= a.0
+    b <= a
 }
 
-// The overlap b after the gap a is short: in its share of both, and in milliseconds. The gap is bounded, since its product
-// might not fit; a gap at the bound decides as every longer one.
+// The overlap b after the gap a is short: in its share of both, and below a number of milliseconds. The gap is bounded, since its
+// product might not fit; a gap at the bound decides as every longer one.
+fn short_below(most: u16, percent: u8, a: Lag, b: Lag) -> bool
+    ensures { result ≡ (ltb (100 * b.0) (percent * (a.0 + b.0)) && ltb b.0 most) }
+{
+    b.0 < (most as u64) && 100 * b.0 < (percent as u64) * (bounded(a) + b.0)
+}
+
+// S4, M up, and S5, O up: the overlap b after the gap a is short.
+#[tactic(auto, unfolding(rules::specs::OneEvent::short_overlap))]
 pub fn short_overlap(percent: u8, a: Lag, b: Lag) -> bool
     ensures { result ≡ short_overlap percent a.0 b.0 }
 {
-    let overlap = b.0;
-    if Settings::SHORT_OVERLAP.0 <= overlap {
-        return false;
-    }
-    100 * overlap < (percent as u64) * (bounded(a) + overlap)
+    short_below(Settings::SHORT_OVERLAP.0 as u16, percent, a, b)
 }
 
 // S7 and S8, a third key: the pair stays together where its two keys are nearer to each other.
 pub fn pair_stays(a: Lag, b: Lag) -> bool
     ensures { result ≡ pair_stays a.0 b.0 }
 {
-    let gap = a.0;
-    gap < b.0
+    a < b
 }
 
-// S7, the first key up: the overlap b after the gap a is short, in its share of both and below T_s (`short_pair`). The gap is
-// bounded as in `short_overlap`.
+// S7, the first key up: the overlap b after the gap a is short, in its share of both and below T_s.
 pub fn short_pair(ts: u16, n: u8, a: Lag, b: Lag) -> bool
     ensures { result ≡ (ltb (100 * b.0) (n * (a.0 + b.0)) && ltb b.0 ts) }
 {
-    let overlap = b.0;
-    if (ts as u64) <= overlap {
-        return false;
-    }
-    100 * overlap < (n as u64) * (bounded(a) + overlap)
+    short_below(ts, n, a, b)
 }
 
 // A product that might not fit, as two digits to the base 2 to the 32: the upper one, which may be a larger number.
@@ -187,21 +133,15 @@ pub fn short_of(percent: u8, b: Lag, c: Lag) -> bool
 fn rest(percent: u8) -> u8
     ensures { result ≡ 100 - percent }
 {
-    if 100 < percent {
-        return 0;
-    }
-    100 - percent
+    100u8.saturating_sub(percent)
 }
 
 // A lag that can be multiplied.
+#[tactic(auto, unfolding(crate::specs::Capped::lag_at_most))]
 fn bounded(x: Lag) -> u64
     ensures { result ≡ lag_at_most x.0 }
 {
-    let most = Machine::LARGEST.0;
-    if x.0 <= most {
-        return x.0;
-    }
-    most
+    x.0.min(Machine::LARGEST.0)
 }
 
 // By how many bits d is moved up to lie above the total: as many as the total is longer, and one more. The quotient takes so many
@@ -212,7 +152,7 @@ fn turns(total: u64, d: u64) -> u32
     requires d_le_total { d ≤ total }
     ensures { Above total d result }
 {
-    u64::leading_zeros(d) + 1 - u64::leading_zeros(total)
+    d.leading_zeros() + 1 - total.leading_zeros()
 }
 
 // total / d, with no division: d is moved up above the total and back down, bit by bit.
@@ -261,7 +201,7 @@ fn alone(t: u16, percent: u8) -> Lag
 }
 
 // The wait of two keys, the second a lag after the first: the lag by the percentage, over its rest.
-fn together(x: Lag, percent: u8) -> Lag
+pub fn together(x: Lag, percent: u8) -> Lag
     ensures { result.0 ≡ up (lag_at_most x.0 * percent) (100 - percent) }
 {
     Lag(share(bounded(x), percent, rest(percent)))
@@ -295,16 +235,6 @@ pub fn thumb_first_wait(s: Settings, x: Lag) -> Lag
     together(x, s.l)
 }
 
-// The longer of two lags.
-pub fn longer(x: Lag, y: Lag) -> Lag
-    ensures { result.0 ≡ max x.0 y.0 }
-{
-    if x.0 <= y.0 {
-        return y;
-    }
-    x
-}
-
 // P, the wait of a letter that is in some pair, but for A.
 pub fn pair_wait(ts: u16, n: u8) -> Lag
     ensures { result.0 ≡ GN n ts }
@@ -323,7 +253,7 @@ pub fn released_wait(n: u8, x: Lag) -> Lag
 fn first_wait(s: Settings) -> Lag
     ensures { result.0 ≡ Numbers.X s }
 {
-    longer(character_wait(s), thumb_first_wait(s, thumb_wait(s)))
+    character_wait(s).max(thumb_first_wait(s, thumb_wait(s)))
 }
 
 // W, the longest wait.
@@ -331,24 +261,20 @@ pub fn longest_wait(s: Settings) -> Lag
     ensures { result.0 ≡ Numbers.W s }
 {
     let first = first_wait(s);
-    let second = longer(first, character_first_wait(s, first));
+    let second = first.max(character_first_wait(s, first));
     Lag(first.0 + second.0)
 }
 
 // How long now is past a stamp, and one more, so that a wait from there is over where it is below this: 0 where now is before
 // it. Where now is the largest number every wait is over.
+#[tactic(auto, unfolding(crate::specs::Capped::since_at_most))]
 pub fn since(from: Stamp, now: Stamp) -> Lag
     ensures { result.0 ≡ since_at_most from now }
 {
-    let start = from.0;
-    let end = now.0;
-    if end < LARGEST_NUMBER {
-        if end < start {
-            return Lag(0);
-        }
-        return Lag(end + 1 - start);
+    match now.0.checked_add(1) {
+        Some(past) => Lag(past.saturating_sub(from.0)),
+        None => Lag(u64::MAX),
     }
-    Lag(LARGEST_NUMBER)
 }
 
 // Whether x n / d, rounded up, is below y. It needs no quotient.
@@ -364,10 +290,7 @@ fn share_below(x: u64, n: u8, d: u8, y: u64) -> bool
     }
     let total = x * (n as u64);
     let most = y - 1;
-    if total <= most {
-        return true;
-    }
-    total <= most * (d as u64)
+    total <= most || total <= most * (d as u64)
 }
 
 // Whether the wait of a character alone is below y.
@@ -393,6 +316,7 @@ pub fn character_first_wait_below(s: Settings, x: Lag, y: Lag) -> bool
 
 // Whether the wait of a thumb and a character that came a lag later, at most that of a thumb alone, is below y. Only a thumb
 // that was held longer than it waits alone asks for that wait itself.
+#[inline(always)]
 pub fn thumb_first_wait_below(s: Settings, x: Lag, y: Lag) -> bool
     ensures { result ≡ ltb (Numbers.FL s (lag_at_most (min x.0 (Numbers.B s)))) y.0 }
 {

@@ -1,3 +1,2 @@
-pub mod Casts
 pub mod FromDistance
 pub mod Told

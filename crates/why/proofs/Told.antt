@@ -11,8 +11,8 @@ use Rattle.pairs.specs.Lent.{lent}
 use Rattle.reasons.specs.Turning.{turnings}
 use Rattle.reasons.specs.Reason.{Test, nothing_compared, Reason, reason, with_reason, reasoned}
 use Rattle.reasons.proofs.AtMachine.{true_reasons}
-use Rattle.states.specs.Meant.{meant}
-use Rattle.states.proofs.Meant.{meant_is_input}
+use Rattle.states.specs.Meant.{meant_by_number}
+use Rattle.states.proofs.Meant.{meant_by_number_is_input}
 use Rattle.margins.specs.Views.{of_times}
 use Rattle.margins.specs.Capped.{turns_at_most}
 use Rattle.margins.proofs.Fitting.{turns_fit, compared_by_times}
@@ -49,8 +49,8 @@ reasons_told l t m e h =
     let s = m.settings in
     let x = m.resting in
     let r = true_reasons g m e h in
-    let i = acts_as m.held (meant e.kind e.key) in
-    let same : i ≡ r.acts = ap (acts_as m.held) (meant_is_input e.kind e.key r.names r.is_input) ∙ sym r.acts_so in
+    let i = acts_as m.held (meant_by_number e.kind e.key) in
+    let same : i ≡ r.acts = ap (acts_as m.held) (meant_by_number_is_input e.kind e.key r.names r.is_input) ∙ sym r.acts_so in
     let items : (step g m e).items ≡ (one_event g s e.stamp x i).items =
     r.its_step ∙ ap (λ j. (one_event g s e.stamp x j).items) (sym same) in
     let reads = reason_told l t r.good_list m r.good_machine e.stamp i in

@@ -19,7 +19,7 @@ use Rattle.pairs.specs.declared.Times.{Times}
 use Rattle.reasons.specs.Turning.{since, next_turn, last_turn}
 use Rattle.reasons.specs.Reason.{late, by, Test, nothing_compared, compared, sooner_at, if_sooner, if_later, Reason, reason}
 use Rattle.reasons.specs.Reason.{with_reason, step_reasons}
-use Rattle.states.specs.Meant.{meant}
+use Rattle.states.specs.Meant.{meant_by_number}
 use Rattle.margins.specs.Views.{when, test, of_times}
 use Rattle.margins.specs.Capped.{turns_at_most}
 use Rattle.why.specs.FromDistance.{deadline_asked}
@@ -80,7 +80,7 @@ ReasonTold =
 abbrev pub ReasonsTold : Type 0
 ReasonsTold =
     (l : List ℕ) (t : Times) (m : Machine) (e : Event) → (step (lent l t) m e).number ≡ 0
-    → let i = acts_as m.held (meant e.kind e.key) in
+    → let i = acts_as m.held (meant_by_number e.kind e.key) in
     let told = numbers_at_most (lent l t) (of_times t) m e.stamp i in
     map (with_reason (read (lent l t) m.settings e.stamp m.resting i told)) (step (lent l t) m e).items
     ≡ step_reasons (lent l t) m e

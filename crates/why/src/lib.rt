@@ -3,67 +3,56 @@
 #![tactic(auto)]
 
 ghost use Rattle.std.specs.Prelude.{◌≡◌};
-ghost use Rattle.pairs.specs.Lent.{lent};
+ghost use Rattle.pairs.specs.Lent.{lent_by};
 ghost use Rattle.rules.specs.OneEvent.{due_by};
 ghost use Rattle.rules.specs.GivenBack.{acts_as};
-ghost use Rattle.states.specs.Meant.{meant};
+ghost use Rattle.states.specs.Meant.{meant_by_number};
 ghost use Rattle.margins.specs.Views.{when, test, of_times};
 ghost use Rattle.deadlines.specs.Views.{asked};
 ghost use Rattle.why.specs.FromDistance.{begun, at_distance, stamp_asked, deadline_asked};
 ghost use Rattle.why.specs.Told.{tested, told, numbers_at_most};
 
-use deadlines::{Asked, distance_with};
+use deadlines::distance_with;
 use held::is_held;
-use margins::{Compared, Due, began, comparing, last_turn, next_turn, sooner_at, turnings};
-use pairs::Times;
-use rules::{Event, Input, Key, Lag, Machine, Resting, Settings, Stamp, Thumb};
-use waits::{at_or_before, later};
+use margins::{Compared, began, comparing, last_turn, next_turn, sooner_at, turnings};
+use pairs::{Lent, Times};
+use rules::{Event, Input, Key, Kind, Lag, Machine, Refusal, Resting, Settings, Stamp};
+use states::thumb_of;
+use waits::later;
 
 // A machine as it was when its state began.
 fn begun(machine: Machine) -> Machine
     ensures { result ≡ begun machine }
 {
-    let s = machine.settings;
-    let resting = machine.resting;
     Machine {
-        settings: s,
-        resting: resting,
-        last: began(resting),
-        held: machine.held,
+        last: began(machine.resting),
+        ..machine
     }
 }
 
 // The stamp so far behind another, none where that is negative.
-fn at_distance(start: Stamp, z: i64) -> Due
+fn at_distance(start: Stamp, z: i64) -> Option<Stamp>
     ensures { when result ≡ at_distance start z }
 {
     if z < 0 {
-        return Due::Never;
+        return None;
     }
-    Due::At(later(start, Lag(z as u64)))
+    Some(later(start, Lag(z as u64)))
 }
 
 // The stamp that an answer tells.
-fn stamp_asked(start: Stamp, answer: Asked) -> Due
+fn stamp_asked(start: Stamp, answer: Result<Option<i64>, Refusal>) -> Option<Stamp>
     ensures { when result ≡ stamp_asked start (asked answer) }
 {
-    match answer {
-        Asked::LentRefused => Due::Never,
-        Asked::NotWellFormed => Due::Never,
-        Asked::AboveLargest => Due::Never,
-        Asked::BeforeLast => Due::Never,
-        Asked::NoDeadline => Due::Never,
-        Asked::In(z) => at_distance(start, z),
-    }
+    at_distance(start, answer.ok()??)
 }
 
 // The deadline of a machine's state, from the distance that it answers where the state began.
-pub fn deadline_of(list: &[u32], times: Times, machine: Machine) -> Due
-    ensures { when result ≡ deadline_asked (lent list.now times) machine }
+pub fn deadline_of(given: Lent<'_>, machine: Machine) -> Option<Stamp>
+    ensures { when result ≡ deadline_asked (lent_by given.entry) machine }
 {
-    let before = begun(machine);
-    let start = before.last;
-    stamp_asked(start, distance_with(list, times, before, start))
+    let start = began(machine.resting);
+    stamp_asked(start, distance_with(given, begun(machine), start))
 }
 
 // The numbers of a reason: whether the line "late" committed, what was compared, the state's deadline, and the nearest stamps before and
@@ -72,22 +61,20 @@ pub fn deadline_of(list: &[u32], times: Times, machine: Machine) -> Due
 pub struct Numbers {
     pub late: bool,
     pub compared: Compared,
-    pub due: Due,
-    pub sooner: Due,
-    pub later: Due,
+    pub due: Option<Stamp>,
+    pub sooner: Option<Stamp>,
+    pub later: Option<Stamp>,
 }
 
 // Whether a deadline is at or before a stamp.
-fn is_late(at: Stamp, due: Due) -> bool
+fn is_late(at: Stamp, due: Option<Stamp>) -> bool
     ensures { result ≡ due_by at (when due) }
 {
-    match due {
-        Due::Never => false,
-        Due::At(d) => at_or_before(d, at),
-    }
+    due.is_some_and(|d| d <= at)
 }
 
 // What was compared: nothing where the state was late.
+#[tactic(auto, unfolding(crate::specs::Told::tested))]
 fn tested(
     times: Times,
     s: Settings,
@@ -99,55 +86,41 @@ fn tested(
     ensures { test result ≡ tested (of_times times) s at resting input late }
 {
     if late {
-        return Compared::Nothing;
+        Compared::Nothing
+    } else {
+        comparing(times, s, at, resting, input)
     }
-    comparing(times, s, at, resting, input)
 }
 
 // The numbers of the reason of what an input commits at a stamp, at any machine.
-pub fn numbers_of(list: &[u32], times: Times, machine: Machine, at: Stamp, input: Input) -> Numbers
-    ensures { told result ≡ numbers_at_most (lent list.now times) (of_times times) machine at input }
+pub fn numbers_of(given: Lent<'_>, machine: Machine, at: Stamp, input: Input) -> Numbers
+    ensures { told result ≡ numbers_at_most (lent_by given.entry) (of_times given.entry.times) machine at input }
 {
-    let s = machine.settings;
     let resting = machine.resting;
-    let due = deadline_of(list, times, machine);
+    let due = deadline_of(given, machine);
     let late = is_late(at, due);
-    let compared = tested(times, s, at, resting, input, late);
-    let turns = turnings(list, times, s, due, resting, input);
-    let sooner = sooner_at(began(resting), last_turn(at, turns));
-    let later = next_turn(at, turns);
+    let turns = turnings(given, machine.settings, due, resting, input);
     Numbers {
-        late: late,
-        compared: compared,
-        due: due,
-        sooner: sooner,
-        later: later,
+        late,
+        compared: tested(given.times, machine.settings, at, resting, input, late),
+        due,
+        sooner: sooner_at(began(resting), last_turn(at, turns)),
+        later: next_turn(at, turns),
     }
 }
 
 // The input that an event's kind and key name: any other kind than 1 to 5 counts as a tick, and any other thumb than 0 as the right one.
+#[tactic(auto, using(states::proofs::Meant::no_kind), unfolding(states::specs::Meant::meant_by_number))]
 fn meant(kind: u8, key: Key) -> Input
-    ensures { result ≡ meant kind key }
+    ensures { result ≡ meant_by_number kind key }
 {
-    match kind {
-        1 => Input::CharacterDown(key),
-        2 => Input::CharacterUp(key),
-        3 => {
-            if key.0 == 0 {
-                Input::ThumbDown(Thumb::Left)
-            } else {
-                Input::ThumbDown(Thumb::Right)
-            }
-        }
-        4 => {
-            if key.0 == 0 {
-                Input::ThumbUp(Thumb::Left)
-            } else {
-                Input::ThumbUp(Thumb::Right)
-            }
-        }
-        5 => Input::FunctionDown,
-        _ => Input::Tick,
+    match Kind::try_from(kind) {
+        Ok(Kind::CharacterDown) => Input::CharacterDown(key),
+        Ok(Kind::CharacterUp) => Input::CharacterUp(key),
+        Ok(Kind::ThumbDown) => Input::ThumbDown(thumb_of(key)),
+        Ok(Kind::ThumbUp) => Input::ThumbUp(thumb_of(key)),
+        Ok(Kind::FunctionDown) => Input::FunctionDown,
+        Ok(Kind::Tick) | Err(_) => Input::Tick,
     }
 }
 
@@ -156,34 +129,17 @@ fn acts_as(held: u32, input: Input) -> Input
     ensures { result ≡ acts_as held input }
 {
     match input {
-        Input::CharacterDown(k) => {
-            if is_held(held, k) {
-                Input::Tick
-            } else {
-                Input::CharacterDown(k)
-            }
-        }
-        Input::CharacterUp(k) => {
-            if is_held(held, k) {
-                Input::CharacterUp(k)
-            } else {
-                Input::Tick
-            }
-        }
-        Input::ThumbDown(p) => Input::ThumbDown(p),
-        Input::ThumbUp(p) => Input::ThumbUp(p),
-        Input::FunctionDown => Input::FunctionDown,
-        Input::Tick => Input::Tick,
+        Input::CharacterDown(k) if is_held(held, k) => Input::Tick,
+        Input::CharacterUp(k) if !is_held(held, k) => Input::Tick,
+        _ => input,
     }
 }
 
 // The numbers of the reason of what an event commits, at any machine. Of an event that the machine refuses they say nothing.
-pub fn numbers_at(list: &[u32], times: Times, machine: Machine, event: Event) -> Numbers
-    ensures { told result ≡ numbers_at_most (lent list.now times) (of_times times) machine event.stamp
-        (acts_as machine.held (meant event.kind event.key)) }
+pub fn numbers_at(given: Lent<'_>, machine: Machine, event: Event) -> Numbers
+    ensures { told result ≡ numbers_at_most (lent_by given.entry) (of_times given.entry.times) machine event.stamp
+        (acts_as machine.held (meant_by_number event.kind event.key)) }
 {
-    let at = event.stamp;
-    let key = event.key;
-    let input = acts_as(machine.held, meant(event.kind, key));
-    numbers_of(list, times, machine, at, input)
+    let input = acts_as(machine.held, meant(event.kind, event.key));
+    numbers_of(given, machine, event.stamp, input)
 }

@@ -10,7 +10,7 @@ use Rattle.deadlines.proofs.distance_with.Goals as goal
 pub returns-then-not-well_formed : goal.returns-then-not-well_formed
 unfolding asking_with
 returns-then-not-well_formed c = let a = c.args in
-    rw (failed (c.well_formed-2.ensures ∙ formed_by_list a.list.now a.times a.machine) c.if-not-well_formed.true)
+    rw (failed (c.well_formed-2.ensures ∙ formed_by_list a.given.list.now a.given.times a.machine) c.if-not-well_formed.true)
 
 pub returns : goal.returns
 unfolding asking_with
@@ -18,7 +18,7 @@ returns c =
     let a = c.args in
     rw (
       well_formed_asking _ (record { t_s = omega arith; n = omega arith }) _ _ _
-          (passed (c.well_formed-2.ensures ∙ formed_by_list a.list.now a.times a.machine) c.if-not-well_formed.false)
-          c.deadline.ensures,
+          (passed (c.well_formed-2.ensures ∙ formed_by_list a.given.list.now a.given.times a.machine) c.if-not-well_formed.false)
+          c.deadline-due.ensures,
       ← c.at_stamp.ensures,
     )

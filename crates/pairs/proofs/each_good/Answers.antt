@@ -1,16 +1,15 @@
--- `pairs::each_good` meets its contract. The loop's invariant: what the whole list answers is what the list from i on answers.
+-- `pairs::each_good` meets its contract.
 use borrow.Author.Rules.{rules}
-use Rattle.pairs.proofs.Laws.{check_start, check_bad, check_on, check_end}
+use mathlib.Core.Path.{◌∙◌}
+use Rattle.std.proofs.lemmas.Iterator.{YieldsList-from_slice}
+use Rattle.std.proofs.lemmas.Iterator.Search.{all_from_yields_List}
+use Rattle.rules.specs.Pairs.{pair_good}
+use Rattle.pairs.specs.Lent.{pair_in}
+use Rattle.pairs.proofs.Laws.{all_good}
 use Rattle.pairs.proofs.each_good.Goals as goal
 
-pub loop-i-init : goal.loop-i-init
-loop-i-init c = check_start _
-
-pub returns-then-not-pair_good : goal.returns-then-not-pair_good
-returns-then-not-pair_good c = search (check_bad, rules)
-
-pub loop-i-preserved : goal.loop-i-preserved
-loop-i-preserved c = search (check_on, rules)
-
 pub returns : goal.returns
-returns c = search (check_end, rules)
+returns c =
+    all_from_yields_List (λ w. pair_good (pair_in w)) _ _ _ c.all.ensures.ran
+    (YieldsList-from_slice c.args.list.now cc) (λ x b q k. search rules) ∙
+    all_good c.args.list.now

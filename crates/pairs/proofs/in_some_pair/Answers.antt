@@ -1,19 +1,17 @@
--- `pairs::in_some_pair` meets its contract. The loop's invariant: what the whole list answers is what the list from i on answers.
+-- `pairs::in_some_pair` meets its contract.
 use borrow.Author.Rules.{rules}
-use Rattle.pairs.proofs.Laws.{seek_start, seek_first, seek_second, seek_on, seek_end}
+use mathlib.Core.Path.{◌∙◌}
+use mathlib.Core.Bool.{◌||◌}
+use Rattle.std.proofs.lemmas.Iterator.{YieldsList-from_slice}
+use Rattle.std.proofs.lemmas.Iterator.Search.{any_from_yields_List}
+use Rattle.rules.specs.Pairs.{same_key}
+use Rattle.pairs.specs.Lent.{pair_in}
+use Rattle.pairs.proofs.Laws.{any_names}
 use Rattle.pairs.proofs.in_some_pair.Goals as goal
 
-pub loop-i-init : goal.loop-i-init
-loop-i-init c = seek_start _ _
-
-pub returns-then-same_key : goal.returns-then-same_key
-returns-then-same_key c = search (seek_first, rules)
-
-pub returns-then-same_key-2 : goal.returns-then-same_key-2
-returns-then-same_key-2 c = search (seek_second, rules)
-
-pub loop-i-preserved : goal.loop-i-preserved
-loop-i-preserved c = search (seek_on, rules)
-
 pub returns : goal.returns
-returns c = search (seek_end, rules)
+unfolding same_key
+returns c =
+    any_from_yields_List (λ w. same_key (pair_in w).first c.args.k || same_key (pair_in w).second c.args.k) _ _ _ c.any.ensures.ran
+    (YieldsList-from_slice c.args.list.now cc) (λ x b q k. search rules) ∙
+    any_names c.args.list.now c.args.k

@@ -1,16 +1,24 @@
--- `pairs::none_twice` meets its contract. The loop's invariant: what the whole list answers is what the list from i on answers.
+-- `pairs::none_twice` meets its contract: what the whole list answers is what is left of it answers.
 use borrow.Author.Rules.{rules}
-use Rattle.pairs.proofs.Laws.{compare_start, compare_twice, compare_on, compare_end}
+use Rattle.std.proofs.lemmas.List.{nil_from_length}
+use Rattle.rules.specs.Pairs.{none_twice}
+use Rattle.pairs.proofs.Laws.{found_twice, found_once}
 use Rattle.pairs.proofs.none_twice.Goals as goal
 
-pub loop-i-init : goal.loop-i-init
-loop-i-init c = compare_start _
-
 pub returns-then-is_pair : goal.returns-then-is_pair
-returns-then-is_pair c = search (compare_twice, rules)
+returns-then-is_pair c =
+    found_twice c.args.list.now c.loop-word.rest.now c.in-Some.behind.now c.in-Some.word.now c.is_pair.ensures (search rules) (search rules)
+    c.in-Some.ensures.cases.0
+    c.loop-word.invariant
+    c.if-is_pair.true
 
-pub loop-i-preserved : goal.loop-i-preserved
-loop-i-preserved c = search (compare_on, rules)
+pub loop-word-preserved : goal.loop-word-preserved
+loop-word-preserved c =
+    found_once c.args.list.now c.loop-word.rest.now c.in-Some.behind.now c.in-Some.word.now c.is_pair.ensures (search rules) (search rules)
+    c.in-Some.ensures.cases.0
+    c.loop-word.invariant
+    c.if-is_pair.false
 
 pub returns : goal.returns
-returns c = search (compare_end, rules)
+unfolding none_twice
+returns c = rw (← c.loop-word.invariant, nil_from_length _ c.in_default.ensures.cases)

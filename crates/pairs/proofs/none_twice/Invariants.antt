@@ -1,11 +1,11 @@
--- `pairs::none_twice` meets its contract. The loop's invariant: what the whole list answers is what the list from i on answers.
-use Prim.Native.Nat.{◌-◌}
-use lib.ListN.{length}
-use Rattle.pairs.proofs.Laws.{Comparing}
+-- `pairs::none_twice` meets its contract: what the whole list answers is what is left of it answers.
+use Rattle.std.proofs.Common.{◌≡◌, length}
+use Rattle.rules.specs.Pairs.{none_twice}
+use Rattle.pairs.specs.Lent.{pairs_in}
 use Rattle.pairs.proofs.none_twice.Given as goal
 
-abbrev pub invariant-loop-i : goal.invariant-loop-i
-invariant-loop-i l = Comparing l.list l.i
+abbrev pub invariant-loop-word : goal.invariant-loop-word
+invariant-loop-word l = none_twice (pairs_in l.rest) ≡ none_twice (pairs_in l.list)
 
-abbrev pub decreases-loop-i : goal.decreases-loop-i
-decreases-loop-i l = length l.list - l.i
+abbrev pub decreases-loop-word : goal.decreases-loop-word
+decreases-loop-word l = length l.rest

@@ -1,16 +1,27 @@
--- `pairs::pair_of` meets its contract. The loop's invariant: what the whole list answers is what the list from i on answers.
-use borrow.Author.Rules.{rules}
-use Rattle.pairs.proofs.Laws.{look_start, look_found, look_on, look_end}
+-- `pairs::pair_of` meets its contract: what the whole list answers is what the list from a word on answers.
+use native.Mathlib.Omega.{arith}
+use mathlib.Core.Path.{sym, ◌∙◌}
+use Rattle.std.proofs.lemmas.List.{drop_more, drop_all}
+use Rattle.rules.specs.Pairs.{pair_of}
 use Rattle.pairs.proofs.pair_of.Goals as goal
 
-pub loop-i-init : goal.loop-i-init
-loop-i-init c = look_start _ _ _
-
 pub returns-then-is_of : goal.returns-then-is_of
-returns-then-is_of c = search (look_found, rules)
+unfolding pair_of
+returns-then-is_of c =
+    rw (
+      c.character.ensures,
+      ← c.loop-word.invariant,
+      drop_more c.args.list.now c.loop-word.word-index 0 c.loop-word-test.true,
+      ← c.is_of.ensures,
+      c.if-is_of.true,
+    )
 
-pub loop-i-preserved : goal.loop-i-preserved
-loop-i-preserved c = search (look_on, rules)
+pub loop-word-preserved : goal.loop-word-preserved
+unfolding pair_of
+loop-word-preserved c =
+    sym (rw (drop_more c.args.list.now c.loop-word.word-index 0 c.loop-word-test.true, ← c.is_of.ensures, c.if-is_of.false))
+    ∙ c.loop-word.invariant
 
 pub returns : goal.returns
-returns c = search (look_end, rules)
+unfolding pair_of
+returns c = rw (← c.loop-word.invariant, drop_all c.loop-word.word-index c.args.list.now (omega arith))

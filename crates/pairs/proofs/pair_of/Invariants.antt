@@ -1,11 +1,8 @@
--- `pairs::pair_of` meets its contract. The loop's invariant: what the whole list answers is what the list from i on answers.
-use Prim.Native.Nat.{◌-◌}
-use lib.ListN.{length}
-use Rattle.pairs.proofs.Laws.{Looking}
+-- `pairs::pair_of` meets its contract: what the whole list answers is what the list from a word on answers.
+use Rattle.std.proofs.Common.{◌≡◌, drop}
+use Rattle.rules.specs.Pairs.{pair_of}
+use Rattle.pairs.specs.Lent.{pairs_in}
 use Rattle.pairs.proofs.pair_of.Given as goal
 
-abbrev pub invariant-loop-i : goal.invariant-loop-i
-invariant-loop-i l = Looking l.list l.a l.b l.i
-
-abbrev pub decreases-loop-i : goal.decreases-loop-i
-decreases-loop-i l = length l.list - l.i
+abbrev pub invariant-loop-word : goal.invariant-loop-word
+invariant-loop-word l = pair_of (pairs_in (drop l.word-index l.list)) l.a l.b ≡ pair_of (pairs_in l.list) l.a l.b

@@ -1,8 +1,0 @@
--- `layout::mark_word` meets its contract.
-use Rattle.layout.proofs.mark_word.Goals as goal
-
-pub returns-in-Left : goal.returns-in-Left
-returns-in-Left c = rw c.in-Left.is
-
-pub returns-in-Right : goal.returns-in-Right
-returns-in-Right c = rw c.in-Right.is

@@ -1,8 +1,0 @@
--- `margins::at_or_late` meets its contract.
-use Rattle.margins.proofs.at_or_late.Goals as goal
-
-pub returns-in-Never : goal.returns-in-Never
-returns-in-Never c = rw c.in-Never.is
-
-pub returns-in-At : goal.returns-in-At
-returns-in-At c = rw (c.in-At.is, ← c.sooner.ensures)

@@ -1,9 +1,0 @@
--- `pairs::character` meets its contract.
-use lib.Bits.{and_mask, mask_lt}
-use Rattle.pairs.proofs.character.Goals as goal
-
-pub overflow_cast-result : goal.overflow_cast-result
-overflow_cast-result c = record { fits = mask_lt c.args.word 16 }
-
-pub returns : goal.returns
-returns c = and_mask c.args.word 16
