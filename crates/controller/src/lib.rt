@@ -1,5 +1,5 @@
 // A live keyboard alone, as a static library, libcontroller.a: what a keyboard's controller runs. Each function is that of `keyboard`
-// under the same name, with its contract.
+// under the same name, with its contract: a static library exports the functions that it has itself.
 #![tactic(auto)]
 
 ghost use Rattle.std.specs.Prelude.{◌≡◌};

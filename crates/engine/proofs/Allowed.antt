@@ -2,19 +2,21 @@
 use Prim.Native.Nat.{ℕ, zero, suc}
 use native.Mathlib.Omega.{arith}
 use borrow.Author.Tests.{le-ltb, ne_eqb}
-use mathlib.Core.Bool.{Bool, true, false}
+use mathlib.Core.Bool.{true, false}
 use mathlib.Core.Option.{none, some}
 use mathlib.Core.Path.{◌≡◌, refl, sym, ◌∙◌}
 use lib.Dec.{eqb, ltb}
 use Rattle.choice.specs.Choice.{if◌then◌orelse◌}
-use Rattle.rules.specs.Numbers.{keys}
 use Rattle.rules.specs.GivenBack.{input}
 use Rattle.rules.specs.declared.Key.{Key}
 use Rattle.rules.specs.declared.Thumb.{Thumb}
 use Rattle.rules.specs.declared.Thumb.TheVariants.{Left, Right}
 use Rattle.rules.specs.declared.Input.{Input}
-use Rattle.rules.specs.declared.Input.TheVariants.{CharacterDown, CharacterUp, ThumbDown, ThumbUp, FunctionDown, Tick}
-use Rattle.states.specs.Meant.{thumb_of, meant}
+use Rattle.rules.specs.declared.Kind.{Kind}
+use Rattle.rules.specs.declared.Kind.TheVariants as kinds
+use Rattle.rules.specs.Refusal.{kind_number}
+use Rattle.rules.specs.declared.Input.TheVariants.{ThumbDown, ThumbUp, FunctionDown, Tick}
+use Rattle.states.specs.Meant.{meant}
 use Rattle.engine.specs.Views.{keys_of}
 
 -- a thumb is 0 or 1
@@ -31,47 +33,35 @@ one_key : (i : Input) (n : ℕ) → (if ltb n 1 then some i orelse none) ≡ (if
 one_key i zero = refl
 one_key i (suc n) = rw (le-ltb (suc n) 1 (omega arith), ne_eqb (suc n) 0 (λ e. omega arith))
 
-no_key : (i : Input) (n : ℕ) → (if ltb n 0 then some i orelse none) ≡ none
-no_key i n = rw (le-ltb n 0 (omega arith))
-
 -- the kinds in turn
 module _ (k : Key) where
-  by_kinds : (t1 t2 t3 t4 t5 t6 : Bool)
-      → (if ltb k.0 (if t1 then keys orelse if t2 then keys orelse if t3 then 2 orelse if t4 then 2 orelse if t5 then 1 orelse if t6 then 1 orelse 0)
-      then some
-      (if t1 then CharacterDown k orelse if t2 then CharacterUp k orelse if t3 then ThumbDown (thumb_of k) orelse
-      if t4 then ThumbUp (thumb_of k) orelse if t5 then FunctionDown orelse Tick) orelse none)
-      ≡ (if t1 then (if ltb k.0 keys then some (CharacterDown k) orelse none) orelse
-      if t2 then (if ltb k.0 keys then some (CharacterUp k) orelse none) orelse
-      if t3 then (if eqb k.0 0 then some (ThumbDown Left) orelse if eqb k.0 1 then some (ThumbDown Right) orelse none) orelse
-      if t4 then (if eqb k.0 0 then some (ThumbUp Left) orelse if eqb k.0 1 then some (ThumbUp Right) orelse none) orelse
-      if t5 then (if eqb k.0 0 then some FunctionDown orelse none) orelse
-      if t6 then (if eqb k.0 0 then some Tick orelse none) orelse none)
-  by_kinds true t2 t3 t4 t5 t6 = refl
-  by_kinds false true t3 t4 t5 t6 = refl
-  by_kinds false false true t4 t5 t6 = two_keys (λ t. ThumbDown t) k.0
-  by_kinds false false false true t5 t6 = two_keys (λ t. ThumbUp t) k.0
-  by_kinds false false false false true t6 = one_key FunctionDown k.0
-  by_kinds false false false false false true = one_key Tick k.0
-  by_kinds false false false false false false = no_key Tick k.0
+  allowed : (kind : Kind) → (if ltb k.0 (keys_of (kind_number kind)) then some (meant kind k) orelse none)
+      ≡ input (kind_number kind) k
+  unfolding input
+  allowed kinds.CharacterDown = refl
+  allowed kinds.CharacterUp = refl
+  allowed kinds.ThumbDown = two_keys (λ t. ThumbDown t) k.0
+  allowed kinds.ThumbUp = two_keys (λ t. ThumbUp t) k.0
+  allowed kinds.FunctionDown = one_key FunctionDown k.0
+  allowed kinds.Tick = one_key Tick k.0
 
-  module _ (kind : ℕ) where
-    allowed : (if ltb k.0 (keys_of kind) then some (meant kind k) orelse none) ≡ input kind k
-    unfolding input meant
-    allowed = by_kinds (eqb kind 1) (eqb kind 2) (eqb kind 3) (eqb kind 4) (eqb kind 5) (eqb kind 6)
-
+  module _ {n : ℕ} (kind : Kind) where
     -- by the test of `judge_event`: whether the key is lower than the number of keys
-    pub is_allowed : {n : ℕ} {t : Bool} → n ≡ keys_of kind → t ≡ ltb k.0 n → t ≡ true → input kind k ≡ some (meant kind k)
-    is_allowed e f h = sym allowed ∙ rw (sym e, sym f, h)
+    pub is_allowed : n ≡ kind_number kind → ltb k.0 (keys_of (kind_number kind)) ≡ true → input n k ≡ some (meant kind k)
+    is_allowed e h = rw e (sym (allowed kind) ∙ rw h)
 
-    pub not_allowed : {n : ℕ} {t : Bool} → n ≡ keys_of kind → t ≡ ltb k.0 n → t ≡ false → input kind k ≡ none
-    not_allowed e f h = sym allowed ∙ rw (sym e, sym f, h)
+    pub not_allowed : n ≡ kind_number kind → ltb k.0 (keys_of (kind_number kind)) ≡ false → input n k ≡ none
+    not_allowed e h = rw e (sym (allowed kind) ∙ rw h)
 
--- the number of keys, kind by kind
-module _ (kind : ℕ) where
-  -- none of the arms before the last, as the code has it there
-  pub keys_of_other :
-      (((((Unit {0} × (kind ≡ 1 → ⊥)) × (kind ≡ 2 → ⊥)) × (kind ≡ 3 → ⊥)) × (kind ≡ 4 → ⊥)) × (kind ≡ 5 → ⊥)) × (kind ≡ 6 → ⊥)
-      → 0 ≡ keys_of kind
-  keys_of_other ((((((u, a), b), c), d), e), f) =
-      rw (ne_eqb kind 1 a, ne_eqb kind 2 b, ne_eqb kind 3 c, ne_eqb kind 4 d, ne_eqb kind 5 e, ne_eqb kind 6 f)
+  -- a number of no kind
+  pub no_kind : (n : ℕ) → ((kind : Kind) → ¬ (n ≡ kind_number kind)) → input n k ≡ none
+  unfolding input
+  no_kind n h =
+      rw (
+        ne_eqb n 1 (h kinds.CharacterDown),
+        ne_eqb n 2 (h kinds.CharacterUp),
+        ne_eqb n 3 (h kinds.ThumbDown),
+        ne_eqb n 4 (h kinds.ThumbUp),
+        ne_eqb n 5 (h kinds.FunctionDown),
+        ne_eqb n 6 (h kinds.Tick),
+      )

@@ -1,8 +1,6 @@
 -- Laws of a step that its functions lean on.
-use borrow.Author.Tests.{eq-eqb}
 use mathlib.Core.Path.{◌≡◌, sym, ap, ◌∙◌}
-use mathlib.Core.Bool.{true, false}
-use mathlib.Core.List.{List}
+use mathlib.Core.Bool.{Bool, true, false}
 use Prim.Native.Nat.{ℕ}
 use native.Mathlib.Omega.{arith}
 use Rattle.rules.specs.Pairs.{Lent}
@@ -17,11 +15,7 @@ use Rattle.rules.specs.declared.Event.{Event}
 use Rattle.rules.specs.declared.Input.{Input}
 use Rattle.choice.proofs.Choices.{by_test}
 use Rattle.rules.proofs.Late.{late_and_event}
-use Rattle.pairs.specs.Lent.{of_list, lent}
-use Rattle.pairs.specs.declared.Times.{Times}
 use Rattle.deadlines.specs.Capped.{deadline_at_most}
-use Rattle.deadlines.proofs.WellFormed.{formed_by_list}
-use Rattle.engine.specs.Views.{judged}
 use Rattle.engine.specs.FormNotAsked.{one_event_at_most}
 
 -- an event at a state that is due: the items are the late ones
@@ -35,30 +29,23 @@ module _ (g : Lent) (s : Settings) (now : Stamp) (x : Resting) (i : Input) where
   unfolding one_event_at_most
   not_late e = rw e
 
-  -- an event whose late line d was done before it, and one that only acts
-  pub when_due : (d r : Done) → due_by now (deadline_at_most g s x) ≡ true → d ≡ late g s x
-      → r ≡ (d.items leaving (in_S1 now i).resting)
-      → r ≡ one_event_at_most g s now x i
-  when_due d r e f h = h ∙ ap (λ (y : Done). y.items leaving (in_S1 now i).resting) f ∙ sym (late_first e)
+  -- by the test t, an event whose late line d was done before it, and one that only acts
+  module _ {t : Bool} (is : t ≡ due_by now (deadline_at_most g s x)) where
+    pub when_due : (d r : Done) → t ≡ true → d ≡ late g s x → r ≡ (d.items leaving (in_S1 now i).resting)
+        → r ≡ one_event_at_most g s now x i
+    when_due d r e f h = h ∙ ap (λ (y : Done). y.items leaving (in_S1 now i).resting) f ∙ sym (late_first (sym is ∙ e))
 
-  pub when_not_due : (r : Done) → due_by now (deadline_at_most g s x) ≡ false → r ≡ act g s now x i → r ≡ one_event_at_most g s now x i
-  when_not_due r e f = f ∙ sym (not_late e)
-
--- T_s and N have no part in whether an event is accepted
-pub judged_by_list : (l : List ℕ) (t : Times) (m : Machine) (e : Event) {v : Verdict} → v ≡ judge (of_list l) m e
-    → v ≡ judge (lent l t) m e
-unfolding judge
-judged_by_list l t m e h = h ∙ rw (formed_by_list l t m)
+    pub when_not_due : (r : Done) → t ≡ false → r ≡ act g s now x i → r ≡ one_event_at_most g s now x i
+    when_not_due r e f = f ∙ sym (not_late (sym is ∙ e))
 
 refused_not_accepted : (n : ℕ) (i : Input) → refused n ≡ accepted i → ⊥
 refused_not_accepted n i e = let z : ◌≡◌ {A = ℕ} 0 1 = cc in omega arith
 
--- only a machine that is well formed accepts: where the number is 0
-pub accepts_well_formed : (g : Lent) (m : Machine) (e : Event) (i : Input) (n : ℕ) → judged n i ≡ judge g m e → n ≡ 0
-    → well_formed g m ≡ true
+-- only a machine that is well formed accepts
+pub accepts_well_formed : (g : Lent) (m : Machine) (e : Event) {i : Input} → accepted i ≡ judge g m e → well_formed g m ≡ true
 unfolding judge
-accepts_well_formed g m e i n h z =
+accepts_well_formed g m e {i} h =
     by_test (λ (v : Verdict). accepted i ≡ v → well_formed g m ≡ true) (well_formed g m)
     (λ w _. w)
     (λ _ f. absurd (refused_not_accepted 2 i (sym f)))
-    (rw (eq-eqb n 0 z) at h)
+    h

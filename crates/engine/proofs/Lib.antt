@@ -1,5 +1,5 @@
 mod Laws
 mod Allowed
-mod Acting
+mod Judged
 pub mod FormNotAsked
 pub mod Calls

@@ -5,265 +5,174 @@
 mod by_state;
 mod holding;
 
-use by_state::event_in;
-use deadlines::is_due;
-pub use deadlines::{Asked, distance, well_formed};
-use effects::Effect;
-use holding::{acting, held_after, too_many};
-pub use pairs::{Times, lent_good};
-use preview::sent;
-pub use preview::{Sendings, Signs};
-pub use rules::Items;
-use rules::{Event, Key, Machine, Resting, Settings, Stamp};
-use states::{act, in_s1, late};
-use waits::before;
-// W: the longest wait where there are no pairs.
-ghost use Rattle.std.specs.Prelude.{◌≡◌, true, []};
+ghost use Rattle.std.specs.Prelude.{◌≡◌, true, Ok};
 ghost use Rattle.rules.specs.States.{well_formed};
 ghost use Rattle.rules.specs.OneEvent.{one_event};
-ghost use Rattle.rules.specs.GivenBack.{acts_as, held_after, judge_room, judge_stamp, judge, refusal, acceptance, step_with, step};
-ghost use Rattle.pairs.specs.Lent.{lent, of_list};
-ghost use Rattle.preview.specs.Views.{Sends};
-ghost use Rattle.rules.specs.declared.Input.{Input};
+ghost use Rattle.rules.specs.GivenBack.{held_after, judge, acceptance, step_with, step};
+ghost use Rattle.pairs.specs.Lent.{lent_by};
+ghost use Rattle.rules.specs.Refusal.{kind_number};
 ghost use Rattle.effects.specs.Views.{done};
 ghost use Rattle.states.specs.Meant.{meant};
 ghost use Rattle.engine.specs.Views.{keys_of, judged, Changes, Gives, taken};
 ghost use Rattle.engine.specs.FormNotAsked.{judge_event, one_event_at_most, take_formed};
 
-pub use waits::longest_wait;
-use waits::lower_key;
+use by_state::event_in;
+use deadlines::is_due;
+pub use deadlines::{distance, well_formed};
+use effects::Effect;
+use holding::{acting, held_after, too_many};
+pub use pairs::{Lent, Times, lent_good};
+use preview::sent;
+pub use preview::{Sendings, Signs};
+pub use rules::Items;
+use rules::{Event, Key, Kind, Machine, Refusal, Resting, Settings, Stamp};
+use states::{act, in_s1, late};
 
-// What an event gives back: the number, the items committed, what is sent, and the machine.
+// W: the longest wait where there are no pairs.
+pub use waits::longest_wait;
+
+// What an event gives back that is not refused: the items committed, what is sent, and the machine.
 #[derive(Clone, Copy)]
 pub struct Stepped {
-    pub number: u8,
     pub items: Items,
     pub sendings: Sendings,
     pub machine: Machine,
 }
 
-// What an event gives back apart from what is sent: it is refused with a number, or commits items and leaves a machine.
+// The same apart from what is sent.
 #[derive(Clone, Copy)]
-pub enum Taken {
-    Refused(u8),
-    Accepted(Items, Machine),
-}
-
-// What an accepted event does.
-#[derive(Clone, Copy)]
-struct Change {
-    items: Items,
-    machine: Machine,
+pub struct Taken {
+    pub items: Items,
+    pub machine: Machine,
 }
 
 // How many keys an event of a kind may name: 31 character keys, two thumbs, and no key, whose number is 0.
-fn keys_of(kind: u8) -> Key
-    ensures { result.0 ≡ keys_of kind }
+fn keys_of(kind: Kind) -> Key
+    ensures { result.0 ≡ keys_of (kind_number kind) }
 {
     match kind {
-        1 => Machine::KEYS,
-        2 => Machine::KEYS,
-        3 => Key(2),
-        4 => Key(2),
-        5 => Key(1),
-        6 => Key(1),
-        _ => Key(0),
+        Kind::CharacterDown | Kind::CharacterUp => Machine::KEYS,
+        Kind::ThumbDown | Kind::ThumbUp => Key(2),
+        Kind::FunctionDown | Kind::Tick => Key(1),
     }
 }
 
-// 11 for one key too many, else 0.
-fn judge_room(machine: Machine, event: Event) -> u8
-    ensures { (i : Input) → judged result (acts_as machine.held i) ≡ judge_room machine event i }
+// The checks of an event itself, in document 01's order; the kind that it acts as where it is accepted.
+#[tactic(auto, unfolding(crate::specs::FormNotAsked::judge_event))]
+fn judge_event(machine: Machine, event: Event) -> Result<Kind, Refusal>
+    ensures { judged event.key result ≡ judge_event machine event }
 {
+    let kind = Kind::try_from(event.kind)?;
+    if event.key >= keys_of(kind) {
+        return Err(Refusal::KeyNotAllowed);
+    }
+    if event.stamp > Machine::LARGEST {
+        return Err(Refusal::AboveLargest);
+    }
+    if event.stamp < machine.last {
+        return Err(Refusal::BeforeLast);
+    }
     if too_many(machine, event) {
-        return 11;
+        return Err(Refusal::TooManyHeld);
     }
-    0
-}
-
-// The stamp's number, 4 or 5; then 11, or 0 where the event is accepted.
-fn judge_stamp(machine: Machine, event: Event) -> u8
-    ensures { (i : Input) → judged result (acts_as machine.held i) ≡ judge_stamp machine event i }
-{
-    let last = machine.last;
-    let now = event.stamp;
-    if before(Machine::LARGEST, now) {
-        return 4;
-    }
-    if before(now, last) {
-        return 5;
-    }
-    judge_room(machine, event)
-}
-
-// The checks of an event itself, in document 01's order; 0 where it is accepted.
-fn judge_event(machine: Machine, event: Event) -> u8
-    ensures { judged result (acts_as machine.held (meant event.kind event.key)) ≡ judge_event machine event }
-{
-    let key = event.key;
-    if lower_key(key, keys_of(event.kind)) {
-        return judge_stamp(machine, event);
-    }
-    3
+    Ok(acting(machine.held, kind, event.key))
 }
 
 // All checks behind 12: whether the machine is well formed comes first. T_s and N have no part in them.
-fn judge(list: &[u32], machine: Machine, event: Event) -> u8
-    ensures { judged result (acts_as machine.held (meant event.kind event.key)) ≡
-        judge (of_list list.now) machine event }
+#[tactic(auto, using(deadlines::proofs::WellFormed::formed_by_list), unfolding(rules::specs::GivenBack::judge, crate::specs::FormNotAsked::judge_event))]
+fn judge(given: Lent<'_>, machine: Machine, event: Event) -> Result<Kind, Refusal>
+    ensures { judged event.key result ≡ judge (lent_by given.entry) machine event }
 {
-    if !well_formed(list, machine) {
-        return 2;
+    if !well_formed(given.list, machine) {
+        return Err(Refusal::NotWellFormed);
     }
     judge_event(machine, event)
 }
 
 // First what is late, then the event acts. What is late leaves S1, which commits nothing, so its items are all.
 fn one_event(
-    list: &[u32],
-    times: Times,
+    given: Lent<'_>,
     s: Settings,
     now: Stamp,
     resting: Resting,
-    kind: u8,
+    kind: Kind,
     n: Key,
 ) -> Effect
-    ensures { done result ≡ one_event_at_most (lent list.now times) s now resting (meant kind n) }
+    ensures { done result ≡ one_event_at_most (lent_by given.entry) s now resting (meant kind n) }
 {
-    if is_due(list, times, s, now, resting) {
-        let first = late(list, s, resting);
-        let items = first.items;
-        let second = in_s1(now, kind, n);
-        let next = second.resting;
+    if is_due(given, s, now, resting) {
         return Effect {
-            items: items,
-            resting: next,
+            resting: in_s1(now, kind, n).resting,
+            ..late(given, s, resting)
         };
     }
-    act(list, times, s, now, resting, kind, n)
+    act(given, s, now, resting, kind, n)
 }
 
-// What an accepted event commits, and the machine after it, by the kind that it acts as.
-fn carry_out(list: &[u32], times: Times, machine: Machine, now: Stamp, kind: u8, n: Key) -> Change
-    ensures { Changes result machine now (held_after machine.held (meant kind n))
-        (one_event_at_most (lent list.now times) machine.settings now machine.resting (meant kind n)) }
+// What an accepted event commits, and the machine after it, by what it does and the kind that it acts as.
+fn carry_out(machine: Machine, effect: Effect, now: Stamp, kind: Kind, n: Key) -> Taken
+    ensures { Changes result machine now (held_after machine.held (meant kind n)) (done effect) }
 {
-    let held = machine.held;
-    let s = machine.settings;
-    let resting = machine.resting;
-    let effect = one_event(list, times, s, now, resting, kind, n);
-    let committed = effect.items;
-    let next = effect.resting;
-    Change {
-        items: committed,
+    Taken {
+        items: effect.items,
         machine: Machine {
-            settings: s,
-            resting: next,
+            resting: effect.resting,
             last: now,
-            held: held_after(held, kind, n),
+            held: held_after(machine.held, kind, n),
+            ..machine
         },
     }
 }
 
-fn accepted(list: &[u32], times: Times, machine: Machine, now: Stamp, kind: u8, n: Key) -> Stepped
-    requires { well_formed (lent list.now times) machine ≡ true }
-    ensures { Gives result (acceptance machine now (held_after machine.held (meant kind n))
-        (one_event (lent list.now times) machine.settings now machine.resting (meant kind n))) }
+fn accepted(given: Lent<'_>, machine: Machine, now: Stamp, kind: Kind, n: Key) -> Stepped
+    requires { well_formed (lent_by given) machine ≡ true }
+    ensures { Gives machine (Ok result) (acceptance machine now (held_after machine.held (meant kind n))
+        (one_event (lent_by given.entry) machine.settings now machine.resting (meant kind n))) }
 {
-    let resting = machine.resting;
-    let done = carry_out(list, times, machine, now, kind, n);
-    let items = done.items;
-    let after = done.machine;
-    let next = after.resting;
+    let effect = one_event(given, machine.settings, now, machine.resting, kind, n);
+    let taken = carry_out(machine, effect, now, kind, n);
     Stepped {
-        number: 0,
-        items: items,
-        sendings: sent(resting, items, next),
-        machine: after,
-    }
-}
-
-fn nothing_sent() -> Sendings
-    ensures { Sends result [] }
-{
-    Sendings {
-        backspaces: 0,
-        signs: Signs {
-            first: 0,
-            second: 0,
-            third: 0,
-            fourth: 0,
-        },
-    }
-}
-
-// Nothing committed, nothing sent, the machine as given.
-fn refused(machine: Machine, number: u8) -> Stepped
-    ensures { Gives result (refusal machine number) }
-{
-    let sendings = nothing_sent();
-    Stepped {
-        number: number,
-        items: Items::None,
-        sendings: sendings,
-        machine: machine,
+        items: taken.items,
+        sendings: sent(machine.resting, taken.items, taken.machine.resting),
+        machine: taken.machine,
     }
 }
 
 // One event of any kind, key and stamp, at any machine, whether what is lent is accepted or not.
-fn step_with(list: &[u32], times: Times, machine: Machine, event: Event) -> Stepped
-    ensures { Gives result (step_with (lent list.now times) machine event) }
+#[tactic(auto, using(crate::proofs::Laws::accepts_well_formed), unfolding(rules::specs::GivenBack::step_with))]
+fn step_with(given: Lent<'_>, machine: Machine, event: Event) -> Result<Stepped, Refusal>
+    ensures { Gives machine result (step_with (lent_by given.entry) machine event) }
 {
-    let now = event.stamp;
-    let key = event.key;
-    let number = judge(list, machine, event);
-    if number != 0 {
-        return refused(machine, number);
-    }
-    let held = machine.held;
-    accepted(
-        list,
-        times,
-        machine,
-        now,
-        acting(held, event.kind, key),
-        key,
-    )
+    let kind = judge(given, machine, event)?;
+    Ok(accepted(given, machine, event.stamp, kind, event.key))
 }
 
-// One event of any kind, key and stamp, at any machine, with any list, T_s and N: 12 comes before anything else.
-pub fn step(list: &[u32], times: Times, machine: Machine, event: Event) -> Stepped
-    ensures { Gives result (step (lent list.now times) machine event) }
+// One event of any kind, key and stamp, at any machine, with any list, T_s and N: 12 comes before anything else. A refused event
+// commits nothing, sends nothing, and its machine is as it was.
+#[tactic(auto, unfolding(rules::specs::GivenBack::step))]
+pub fn step(given: Lent<'_>, machine: Machine, event: Event) -> Result<Stepped, Refusal>
+    ensures { Gives machine result (step (lent_by given.entry) machine event) }
 {
-    if !lent_good(list, times) {
-        return refused(machine, 12);
+    if !lent_good(given) {
+        return Err(Refusal::ListNotGood);
     }
-    step_with(list, times, machine, event)
+    step_with(given, machine, event)
 }
 
 // An event apart from what is sent, for a caller who knows that what is lent is accepted and that the machine is well formed: neither
 // is asked again.
-pub fn take_formed(list: &[u32], times: Times, machine: Machine, event: Event) -> Taken
-    ensures { taken result ≡ take_formed (lent list.now times) machine event }
+#[tactic(auto, unfolding(crate::specs::FormNotAsked::take_formed))]
+pub fn take_formed(given: Lent<'_>, machine: Machine, event: Event) -> Result<Taken, Refusal>
+    ensures { taken result ≡ take_formed (lent_by given.entry) machine event }
 {
-    let now = event.stamp;
-    let key = event.key;
-    let number = judge_event(machine, event);
-    if number != 0 {
-        return Taken::Refused(number);
-    }
-    let s = machine.settings;
-    let resting = machine.resting;
-    let held = machine.held;
-    let kind = acting(held, event.kind, key);
-    let effect = event_in(list, times, s, now, resting, kind, key);
-    let items = effect.items;
-    let next = effect.resting;
-    let after = Machine {
-        settings: s,
-        resting: next,
-        last: now,
-        held: held_after(held, kind, key),
-    };
-    Taken::Accepted(items, after)
+    let kind = judge_event(machine, event)?;
+    let effect = event_in(
+        given,
+        machine.settings,
+        event.stamp,
+        machine.resting,
+        kind,
+        event.key,
+    );
+    Ok(carry_out(machine, effect, event.stamp, kind, event.key))
 }

@@ -9,16 +9,21 @@ use Rattle.choice.specs.Choice.{if◌then◌orelse◌}
 use Rattle.rules.specs.ZeroDelay.{sign_unless_0, character, sign_of}
 use Rattle.rules.specs.GivenBack.{Answer}
 use Rattle.rules.specs.declared.Thumb.TheVariants.{Left, Right}
+use Rattle.std.specs.Prelude.{Ok, Err}
+use mathlib.Core.Option.{some}
+use Rattle.rules.specs.Refusal.{number_of}
+use Rattle.rules.specs.declared.Refusal.{Refusal}
+use Rattle.rules.specs.declared.Machine.{Machine}
 use Rattle.rules.specs.declared.Item.{Item}
 use Rattle.rules.specs.declared.Item.TheVariants.{Character, Mark, Together}
 use Rattle.rules.specs.Items.{listed}
 use Rattle.preview.specs.Views.{packed_sendings}
 use Rattle.engine.specs.Views.{Gives}
 use Rattle.engine.specs.declared.Stepped.{Stepped}
-use Rattle.machine_numbers.specs.Fields.{in_numbers}
+use Rattle.machine_numbers.specs.Fields.{in_numbers, named}
+use Rattle.machine_numbers.proofs.RoundTrip.{loses_nothing}
 use Rattle.machine_numbers.specs.declared.MachineNumbers.{MachineNumbers}
-use Rattle.keyboard.specs.declared.Commits.{Commits}
-use Rattle.keyboard.specs.Keyboard.{word_of, words_of, answer_numbers, answered_numbers}
+use Rattle.keyboard.specs.Keyboard.{word_of, words_of, answer_numbers, answered_numbers, refused_numbers}
 
 -- a word is known by its signs
 same_word : (a b : ℕ) → sign_unless_0 a ≡ sign_unless_0 b → a ≡ b
@@ -46,11 +51,15 @@ pub two_words : (v w : ℕ) (i j : Item) → sign_unless_0 v ≡ sign_of i → s
 two_words v w i j e f = rw (word_is v i e, word_is w j f)
 
 -- the engine's answer as numbers
-pub gives_numbers : {f : MachineNumbers} {c : Commits} (r : Stepped) {a : Answer} → Gives r a → f ≡ in_numbers r.machine
-    → c ≡ words_of (listed r.items)
-    → answer_numbers f r.number c r.sendings ≡ answered_numbers a
-gives_numbers r {a} g e h =
-    rw (e, h)
-    (ap (answer_numbers (in_numbers r.machine) r.number (words_of (listed r.items))) g.packed
-    ∙ ap (λ (b : Answer). answer_numbers (in_numbers b.machine) b.number (words_of b.items) (packed_sendings a.sendings))
-    g.answer)
+pub accepted_numbers : {x : Machine} (r : Stepped) {a : Answer} → Gives x (Ok r) a
+    → answer_numbers (in_numbers r.machine) 0 (words_of (listed r.items)) r.sendings ≡ answered_numbers a
+accepted_numbers r {a} g =
+    ap (answer_numbers (in_numbers r.machine) 0 (words_of (listed r.items))) g.packed
+    ∙ ap (λ (b : Answer). answer_numbers (in_numbers b.machine) b.number (words_of b.items) (packed_sendings a.sendings)) g.answer
+
+-- a refusal: the numbers as given are those of the machine that they name
+pub refusal_numbers : {f : MachineNumbers} {x : Machine} (e : Refusal) {a : Answer} → named f ≡ some x → Gives x (Err e) a
+    → refused_numbers f (number_of e) ≡ answered_numbers a
+refusal_numbers {f} {x} e {a} n g =
+    rw (← loses_nothing.one_form f x n)
+    (ap (λ (b : Answer). answer_numbers (in_numbers b.machine) b.number (words_of b.items) (packed_sendings b.sendings)) g.answer)

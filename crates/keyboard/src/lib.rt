@@ -3,18 +3,20 @@
 
 ghost use Rattle.std.specs.Prelude.{◌≡◌};
 ghost use Rattle.rules.specs.States.{opening};
+ghost use Rattle.rules.specs.Refusal.{number_of};
 ghost use Rattle.rules.specs.Items.{listed};
-ghost use Rattle.pairs.specs.Lent.{lent};
+ghost use Rattle.pairs.specs.Lent.{lent_by};
 ghost use Rattle.deadlines.specs.Views.{asked};
 ghost use Rattle.rules.specs.Numbers.{settings_of};
+ghost use Rattle.machine_numbers.specs.Fields.{in_numbers};
 ghost use Rattle.keyboard.specs.Keyboard.{event_of, open_numbers, words_of, answer_numbers, refused_numbers, step_numbers};
 ghost use Rattle.keyboard.specs.Keyboard.{lent_of, no_machine_number};
 ghost use Rattle.keyboard.specs.Keyboard.{asked_numbers, distance_numbers};
 
-use engine::{Asked, Items, Sendings};
-use machine_numbers::{MachineNumbers, Named};
-use pairs::{Times, lent_good};
-use rules::{Event, Key, Machine, Opened, Settings, Stamp};
+use engine::{Items, Stepped};
+use machine_numbers::MachineNumbers;
+use pairs::{Lent, Times, lent_good};
+use rules::{Event, Key, Machine, Refusal, Settings, Stamp};
 
 // A fresh machine, or refusal 1 and numbers that name no machine.
 #[repr(C)]
@@ -57,62 +59,69 @@ struct Commits {
     second: u16,
 }
 
-fn committed(items: Items) -> Commits
-    ensures { result ≡ words_of (listed items) }
-{
-    match items {
-        Items::None => Commits {
-            items: 0,
-            first: 0,
-            second: 0,
-        },
-        Items::One(item) => Commits {
-            items: 1,
-            first: layout::word(item),
-            second: 0,
-        },
-        Items::Two(item, other) => Commits {
-            items: 2,
-            first: layout::word(item),
-            second: layout::word(other),
-        },
+impl From<Items> for Commits {
+    ghost from_gives = { λ items words. words ≡ words_of (listed items) };
+
+    fn from(items: Items) -> Commits {
+        match items {
+            Items::None => Commits {
+                items: 0,
+                first: 0,
+                second: 0,
+            },
+            Items::One(item) => Commits {
+                items: 1,
+                first: layout::word(item),
+                second: 0,
+            },
+            Items::Two(item, other) => Commits {
+                items: 2,
+                first: layout::word(item),
+                second: layout::word(other),
+            },
+        }
     }
 }
 
-fn answer(machine: MachineNumbers, number: u8, words: Commits, sent: Sendings) -> StepAnswer
-    ensures { result ≡ answer_numbers machine number words sent }
-{
-    let signs = sent.signs;
-    StepAnswer {
-        machine: machine,
-        number: number as u32,
-        items: words.items,
-        first: words.first,
-        second: words.second,
-        backspaces: sent.backspaces as u16,
-        sent_first: signs.first,
-        sent_second: signs.second,
-        sent_third: signs.third,
+// The answer to an event that is accepted.
+impl From<Stepped> for StepAnswer {
+    ghost from_gives = { λ done r. r ≡ answer_numbers (in_numbers done.machine) 0 (words_of (listed done.items)) done.sendings };
+
+    fn from(done: Stepped) -> StepAnswer {
+        let words = Commits::from(done.items);
+        let sent = done.sendings;
+        StepAnswer {
+            machine: machine_numbers::in_numbers(done.machine),
+            number: 0,
+            items: words.items,
+            first: words.first,
+            second: words.second,
+            backspaces: sent.backspaces as u16,
+            sent_first: sent.signs.first,
+            sent_second: sent.signs.second,
+            sent_third: sent.signs.third,
+        }
     }
 }
 
 // The refusal of numbers that name no machine: 2, but 12 comes first.
-fn no_machine_number(pairs: &[u32], times: Times) -> u32
-    ensures { result ≡ no_machine_number (lent pairs.now times) }
+fn no_machine(given: Lent<'_>) -> Refusal
+    ensures { number_of result ≡ no_machine_number (lent_by given.entry) }
 {
-    if lent_good(pairs, times) {
-        return 2;
+    if lent_good(given) {
+        Refusal::NotWellFormed
+    } else {
+        Refusal::ListNotGood
     }
-    12
 }
 
-// A refusal, with the numbers as given.
-fn refused(machine: MachineNumbers, number: u32) -> StepAnswer
-    ensures { result ≡ refused_numbers machine number }
+// A refusal, with the numbers as given. A host in C knows it by its number.
+fn refused(machine: MachineNumbers, refusal: Refusal) -> StepAnswer
+    ensures { result ≡ refused_numbers machine (number_of refusal) }
 {
     StepAnswer {
-        machine: machine,
-        number: number,
+        machine,
+        number: refusal.number() as u32,
         items: 0,
         first: 0,
         second: 0,
@@ -123,26 +132,28 @@ fn refused(machine: MachineNumbers, number: u32) -> StepAnswer
     }
 }
 
-fn told(number: u32, deadline: u32, milliseconds: i64) -> DistanceAnswer
-    ensures { result ≡ record { number = number; deadline = deadline; milliseconds = milliseconds } }
-{
-    DistanceAnswer {
-        number: number,
-        deadline: deadline,
-        milliseconds: milliseconds,
-    }
-}
+// C has no Option and no Result: it gets a number, whether there is a deadline, and the milliseconds to it.
+impl From<Result<Option<i64>, Refusal>> for DistanceAnswer {
+    ghost from_gives = { λ answer r. r ≡ asked_numbers (asked answer) };
 
-fn distance_answer(answer: Asked) -> DistanceAnswer
-    ensures { result ≡ asked_numbers (asked answer) }
-{
-    match answer {
-        Asked::LentRefused => told(12, 0, 0),
-        Asked::NotWellFormed => told(2, 0, 0),
-        Asked::AboveLargest => told(4, 0, 0),
-        Asked::BeforeLast => told(5, 0, 0),
-        Asked::NoDeadline => told(0, 0, 0),
-        Asked::In(milliseconds) => told(0, 1, milliseconds),
+    fn from(answer: Result<Option<i64>, Refusal>) -> DistanceAnswer {
+        let unless_told = DistanceAnswer {
+            number: 0,
+            deadline: 0,
+            milliseconds: 0,
+        };
+        match answer {
+            Ok(None) => unless_told,
+            Ok(Some(milliseconds)) => DistanceAnswer {
+                deadline: 1,
+                milliseconds,
+                ..unless_told
+            },
+            Err(refusal) => DistanceAnswer {
+                number: refusal.number() as u32,
+                ..unless_told
+            },
+        }
     }
 }
 
@@ -151,26 +162,21 @@ fn distance_answer(answer: Asked) -> DistanceAnswer
 pub extern "C" fn trabeculon_open(t: u16, j: u8, l: u8, solo: u8) -> OpenAnswer
     ensures { result ≡ open_numbers (opening (settings_of t j l solo)) }
 {
-    let settings = Settings {
-        t: t,
-        j: j,
-        l: l,
-        solo: solo,
-    };
-    match Machine::open(settings) {
-        Opened::OutOfRange => OpenAnswer {
-            machine: machine_numbers::no_machine(),
-            number: 1,
-        },
-        Opened::Ready(machine) => OpenAnswer {
+    match Machine::open(Settings { t, j, l, solo }) {
+        Ok(machine) => OpenAnswer {
             machine: machine_numbers::in_numbers(machine),
             number: 0,
+        },
+        Err(refusal) => OpenAnswer {
+            machine: machine_numbers::no_machine(),
+            number: refusal.number() as u64,
         },
     }
 }
 
 // One event at a machine, with a list of pairs, T_s and N lent.
 #[unsafe(no_mangle)]
+#[tactic(auto, using(crate::proofs::Numbered::accepted_numbers, crate::proofs::Numbered::refusal_numbers), unfolding(crate::specs::Keyboard::step_numbers))]
 pub extern "C" fn trabeculon_step(
     machine: MachineNumbers,
     pairs: &[u32],
@@ -182,35 +188,27 @@ pub extern "C" fn trabeculon_step(
 ) -> StepAnswer
     ensures { result ≡ step_numbers (lent_of pairs.now ts n) machine (event_of kind key stamp) }
 {
-    let times = Times { ts: ts, n: n };
-    match machine_numbers::machine_of(machine) {
-        Named::None => refused(machine, no_machine_number(pairs, times)),
-        Named::Some(before) => {
-            let done = engine::step(
-                pairs,
-                times,
-                before,
-                Event {
-                    kind: kind,
-                    key: Key(key),
-                    stamp: stamp,
-                },
-            );
-            let after = done.machine;
-            let items = done.items;
-            let sent = done.sendings;
-            answer(
-                machine_numbers::in_numbers(after),
-                done.number,
-                committed(items),
-                sent,
-            )
-        }
+    let given = Lent {
+        list: pairs,
+        times: Times { ts, n },
+    };
+    let event = Event {
+        kind,
+        key: Key(key),
+        stamp,
+    };
+    let Some(before) = machine_numbers::machine_of(machine) else {
+        return refused(machine, no_machine(given));
+    };
+    match engine::step(given, before, event) {
+        Ok(done) => StepAnswer::from(done),
+        Err(refusal) => refused(machine, refusal),
     }
 }
 
 // How far the next deadline of a machine lies from a stamp.
 #[unsafe(no_mangle)]
+#[tactic(auto, unfolding(crate::specs::Keyboard::distance_numbers))]
 pub extern "C" fn trabeculon_distance(
     machine: MachineNumbers,
     pairs: &[u32],
@@ -220,9 +218,12 @@ pub extern "C" fn trabeculon_distance(
 ) -> DistanceAnswer
     ensures { result ≡ distance_numbers (lent_of pairs.now ts n) machine stamp }
 {
-    let times = Times { ts: ts, n: n };
-    match machine_numbers::machine_of(machine) {
-        Named::None => told(no_machine_number(pairs, times), 0, 0),
-        Named::Some(asked) => distance_answer(engine::distance(pairs, times, asked, stamp)),
-    }
+    let given = Lent {
+        list: pairs,
+        times: Times { ts, n },
+    };
+    let Some(asked) = machine_numbers::machine_of(machine) else {
+        return DistanceAnswer::from(Err(no_machine(given)));
+    };
+    DistanceAnswer::from(engine::distance(given, asked, stamp))
 }

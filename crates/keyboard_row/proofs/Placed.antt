@@ -1,30 +1,26 @@
 -- What the test of a keyboard's number says of the row of numbers that the code holds: where a keyboard's lie, and which answer is due.
 use Prim.Native.Nat.{ℕ, ◌<◌, ◌*◌, ◌^◌}
 use native.Mathlib.Omega.{arith}
-use mathlib.Core.Bool.{Bool, true, false}
 use mathlib.Core.List.{List}
-use mathlib.Core.Logic.{inl, inr}
 use mathlib.Core.Option.{none}
-use mathlib.Core.Path.{◌≡◌, refl, sym, ap, ◌∙◌}
-use lib.Dec.{T, leb, ltb}
+use mathlib.Core.Path.{◌≡◌, sym, ap, ◌∙◌}
+use lib.Dec.{T}
 use lib.ListN.{length, get_or, set}
-use borrow.Author.Tests.{leb-false, ltb-false}
 use Rattle.rules.specs.Pairs.{Lent}
 use Rattle.rules.specs.declared.Stamp.{Stamp}
 use Rattle.rules.specs.declared.Event.{Event}
 use Rattle.machine_numbers.specs.Fields.{no_machine}
 use Rattle.machine_numbers.specs.declared.MachineNumbers.{MachineNumbers}
 use Rattle.keyboard.specs.Keyboard.{step_numbers, distance_numbers}
+use Rattle.keyboard.specs.declared.StepAnswer.{StepAnswer}
 use Rattle.keyboard.specs.declared.DistanceAnswer.{DistanceAnswer}
-use Rattle.row.specs.Row.{most_keyboards}
 use Rattle.row.specs.Views.{is_keyboard}
 use Rattle.row.proofs.Found.{stands_at}
-use Rattle.row.proofs.Placed.{within, short}
-use Rattle.keyboard_row.specs.Keyboards.{keyboard_numbers, advanced_numbers, row_numbers, no_keyboard, not_asked}
+use Rattle.row.proofs.Placed.{within, short, not_there}
+use Rattle.keyboard_row.specs.Keyboards.{keyboard_numbers, told_of, row_numbers, no_keyboard, not_asked}
 use Rattle.keyboard_row.specs.Keyboards.{row_step_numbers, row_distance_numbers}
 use Rattle.keyboard_row.specs.KeyboardsFacts.{FoundNumbers}
 use Rattle.keyboard_row.specs.declared.RowStepAnswer.{RowStepAnswer}
-use Rattle.keyboard_row.specs.declared.Advanced.{Advanced}
 use Rattle.keyboard_row.proofs.Finding.{none_found, step_here, step_nowhere, distance_here, distance_nowhere}
 
 -- bytes of a machine's numbers in memory: the code scales a keyboard's number by it
@@ -49,20 +45,15 @@ module _ (row : List MachineNumbers) (k : ℕ) where
       record { not_above_16 = short (length row) k t; stands = stands_at row k any_machine (within (length row) k t) }
 
   not_found : (T (is_keyboard (length row) k) → ⊥) → keyboard_numbers row k ≡ none
-  unfolding is_keyboard
-  not_found f = go (leb (length row) most_keyboards) refl (ltb k (length row)) refl
-    where
-      go : (a : Bool) → leb (length row) most_keyboards ≡ a → (b : Bool) → ltb k (length row) ≡ b → keyboard_numbers row k ≡ none
-      go false p b q = none_found row k (inl (leb-false _ _ p))
-      go true p false q = none_found row k (inr (ltb-false _ _ q))
-      go true p true q = absurd (f (rw (p, q) tt))
+  not_found f = none_found row k (not_there (length row) k f)
 
   module _ (g : Lent) (t : T (is_keyboard (length row) k)) where
     -- the answer of the keyboard's own machine, with the machine in its place
-    pub told_here : (e : Event) (d : Advanced) → d ≡ advanced_numbers (step_numbers g (numbers_at row k) e)
-        → row_numbers d.told (set row k d.machine) ≡ row_step_numbers g row k e
-    told_here e d h =
-        ap (λ (a : Advanced). row_numbers a.told (set row k a.machine)) h ∙ sym (step_here row k g e (numbers_at row k) (is_found t))
+    pub told_here : (e : Event) (a : StepAnswer) → a ≡ step_numbers g (numbers_at row k) e
+        → row_numbers (told_of a) (set row k a.machine) ≡ row_step_numbers g row k e
+    told_here e a h =
+        ap (λ (a : StepAnswer). row_numbers (told_of a) (set row k a.machine)) h
+        ∙ sym (step_here row k g e (numbers_at row k) (is_found t))
 
     pub asked_here : (now : Stamp) (r : DistanceAnswer) → r ≡ distance_numbers g (numbers_at row k) now
         → r ≡ row_distance_numbers g row k now

@@ -13,7 +13,6 @@ use Rattle.keyboard.specs.declared.StepAnswer.{StepAnswer}
 use Rattle.keyboard.specs.declared.DistanceAnswer.{DistanceAnswer}
 use Rattle.row.specs.Row.{most_keyboards}
 use Rattle.keyboard_row.specs.declared.RowStepAnswer.{RowStepAnswer}
-use Rattle.keyboard_row.specs.declared.Advanced.{Advanced}
 
 -- the numbers of keyboard k of a row; none where the row is above 16 or k is past the row
 unfoldable pub keyboard_numbers : List MachineNumbers → ℕ → Option MachineNumbers
@@ -42,9 +41,6 @@ told_of a =
       sent_second = a.sent_second;
       sent_third = a.sent_third;
     }
-
-abbrev pub advanced_numbers : StepAnswer → Advanced
-advanced_numbers a = record { told = told_of a; machine = a.machine }
 
 -- refused: nothing committed, nothing sent
 abbrev pub refused_told : ℕ → RowStepAnswer

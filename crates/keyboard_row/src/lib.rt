@@ -3,14 +3,13 @@
 #![tactic(auto)]
 
 ghost use Rattle.std.specs.Prelude.{◌≡◌};
-ghost use Rattle.keyboard.specs.Keyboard.{event_of, lent_of, step_numbers};
-ghost use Rattle.keyboard_row.specs.Keyboards.{advanced_numbers, row_numbers, no_keyboard, row_step_numbers};
-ghost use Rattle.keyboard_row.specs.Keyboards.{not_asked, row_distance_numbers};
+ghost use Rattle.keyboard.specs.Keyboard.{event_of, lent_of};
+ghost use Rattle.keyboard_row.specs.Keyboards.{told_of, row_numbers, no_keyboard, row_step_numbers, row_distance_numbers};
 
-use keyboard::DistanceAnswer;
+use keyboard::{DistanceAnswer, StepAnswer};
 use machine_numbers::MachineNumbers;
 use row::is_keyboard;
-use rules::Stamp;
+use rules::{Refusal, Stamp};
 
 // What an event at a row gives back beside the row: the number, how many items are committed, their words, and what is sent: so many
 // backspaces, 0 to 2, then signs, packed to the front, 0 behind the last.
@@ -27,48 +26,30 @@ pub struct RowStepAnswer {
     pub sent_third: u16,
 }
 
-// What an event gives back at one machine, in two parts: what is told, and the machine that takes its place.
-#[derive(Clone, Copy)]
-struct Advanced {
-    told: RowStepAnswer,
-    machine: MachineNumbers,
-}
+// What an event gives back at one machine, without the machine.
+impl From<StepAnswer> for RowStepAnswer {
+    ghost from_gives = { λ answer told. told ≡ told_of answer };
 
-// One event at one machine.
-fn advance(
-    machine: MachineNumbers,
-    pairs: &[u32],
-    ts: u16,
-    n: u8,
-    kind: u8,
-    key: u8,
-    stamp: Stamp,
-) -> Advanced
-    ensures { result ≡ advanced_numbers (step_numbers (lent_of pairs.now ts n) machine (event_of kind key stamp)) }
-{
-    let done = keyboard::trabeculon_step(machine, pairs, ts, n, kind, key, stamp);
-    let after = done.machine;
-    Advanced {
-        told: RowStepAnswer {
-            number: done.number,
-            items: done.items,
-            first: done.first,
-            second: done.second,
-            backspaces: done.backspaces,
-            sent_first: done.sent_first,
-            sent_second: done.sent_second,
-            sent_third: done.sent_third,
-        },
-        machine: after,
+    fn from(answer: StepAnswer) -> RowStepAnswer {
+        RowStepAnswer {
+            number: answer.number,
+            items: answer.items,
+            first: answer.first,
+            second: answer.second,
+            backspaces: answer.backspaces,
+            sent_first: answer.sent_first,
+            sent_second: answer.sent_second,
+            sent_third: answer.sent_third,
+        }
     }
 }
 
-// Refusal 13.
+// The row has no such keyboard: nothing is committed, and nothing is sent.
 fn no_keyboard() -> RowStepAnswer
     ensures { result ≡ no_keyboard }
 {
     RowStepAnswer {
-        number: 13,
+        number: Refusal::NoKeyboard.number() as u32,
         items: 0,
         first: 0,
         second: 0,
@@ -76,17 +57,6 @@ fn no_keyboard() -> RowStepAnswer
         sent_first: 0,
         sent_second: 0,
         sent_third: 0,
-    }
-}
-
-// Refusal 13.
-fn not_asked() -> DistanceAnswer
-    ensures { result ≡ not_asked }
-{
-    DistanceAnswer {
-        number: 13,
-        deadline: 0,
-        milliseconds: 0,
     }
 }
 
@@ -106,12 +76,12 @@ pub extern "C" fn trabeculon_row_step(
         ≡ row_step_numbers (lent_of pairs.now ts n) row.old board (event_of kind key stamp) }
 {
     let place = board as usize;
-    if is_keyboard(row.len(), place) {
-        let done = advance(row[place], pairs, ts, n, kind, key, stamp);
-        row[place] = done.machine;
-        return done.told;
+    if !is_keyboard(row.len(), place) {
+        return no_keyboard();
     }
-    no_keyboard()
+    let done = keyboard::trabeculon_step(row[place], pairs, ts, n, kind, key, stamp);
+    row[place] = done.machine;
+    RowStepAnswer::from(done)
 }
 
 // How far the next deadline of a keyboard of a row lies from a stamp.
@@ -127,8 +97,8 @@ pub extern "C" fn trabeculon_row_distance(
     ensures { result ≡ row_distance_numbers (lent_of pairs.now ts n) row.now board stamp }
 {
     let place = board as usize;
-    if is_keyboard(row.len(), place) {
-        return keyboard::trabeculon_distance(row[place], pairs, ts, n, stamp);
+    if !is_keyboard(row.len(), place) {
+        return DistanceAnswer::from(Err(Refusal::NoKeyboard));
     }
-    not_asked()
+    keyboard::trabeculon_distance(row[place], pairs, ts, n, stamp)
 }

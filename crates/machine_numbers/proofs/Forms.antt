@@ -36,7 +36,7 @@ shuffle true true true true false true p = refl
 shuffle true true true true false false p = refl
 
 -- K's number, where it fits
-second_same : (f : MachineNumbers) → second_fits f ≡ true → second_at f ≡ second_character f
+pub second_same : (f : MachineNumbers) → second_fits f ≡ true → second_at f ≡ second_character f
 unfolding second_fits
 second_same f e = ap (λ (n : ℕ). record { 0 = n }) (mod-eq_of_lt (ltb-true f.second key_numbers e))
 
@@ -144,22 +144,22 @@ module _ (g : Lent) (f : MachineNumbers) where
   abbrev stamps_7 : Bool
   stamps_7 = at_or_before f.m f.last && at_or_before f.k f.last && at_or_before f.m f.k
 
-  pub in_7 : {K : Key} → K ≡ second_at f → there (as_S7 f) ≡ (no_thumb f && no_release f && second_fits f && two stamps_7 K)
+  pub in_7 : there (as_S7 f) ≡ (no_thumb f && no_release f && second_fits f && two stamps_7 (second_at f))
   unfolding as_S7
-  in_7 k =
+  in_7 =
       if_given (no_thumb f && no_release f && second_fits f) (some (S7 (character f) f.m (second_character f) f.k))
-      ∙ seconds (no_thumb f && no_release f) (two stamps_7) k
+      ∙ seconds (no_thumb f && no_release f) (two stamps_7) refl
 
   abbrev stamps_8 : Bool
   stamps_8 =
       at_or_before f.m f.last && at_or_before f.k f.last && at_or_before f.r f.last
       && (at_or_before f.m f.k && at_or_before f.k f.r)
 
-  pub in_8 : {K : Key} → K ≡ second_at f → there (as_S8 f) ≡ (no_thumb f && second_fits f && two stamps_8 K)
+  pub in_8 : there (as_S8 f) ≡ (no_thumb f && second_fits f && two stamps_8 (second_at f))
   unfolding as_S8
-  in_8 k =
+  in_8 =
       if_given (no_thumb f && second_fits f) (some (S8 (character f) f.m (second_character f) f.k f.r))
-      ∙ seconds (no_thumb f) (two stamps_8) k
+      ∙ seconds (no_thumb f) (two stamps_8) refl
 
   pub by_tests : formed g f
       ≡ (in_range (settings_named f) && at_or_before f.last (at largest_stamp) && held_formed f.held && there (resting_named f))

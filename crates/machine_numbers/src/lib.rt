@@ -1,28 +1,28 @@
 // A machine as fixed-width numbers, for a host that is not written in Rattle. What each number says is in specs/Fields.antt.
 #![tactic(auto)]
 
-ghost use Rattle.std.specs.Prelude.{◌≡◌, ◌&&◌, eqb, ltb};
+ghost use Rattle.std.specs.Prelude.{◌≡◌, eqb, ltb};
 ghost use Rattle.std.proofs.Math.Option.{none, some};
 ghost use Rattle.choice.specs.Choice.{if◌then◌orelse◌};
-ghost use Rattle.rules.specs.States.{at};
+ghost use Rattle.rules.specs.declared.Thumb.TheVariants.{Left, Right};
 ghost use Rattle.pairs.specs.Lent.{of_list};
-ghost use Rattle.machine_numbers.specs.Fields.{thumb_number, joined, in_numbers, no_character};
+ghost use Rattle.machine_numbers.specs.Fields.{thumb_number, in_numbers, no_character};
 ghost use Rattle.machine_numbers.specs.Fields.{no_second, second_fits, no_thumb, no_release};
 ghost use Rattle.machine_numbers.specs.Fields.{as_S1, as_S2, as_S3, as_S4, as_S5, as_S6, as_S7};
 ghost use Rattle.machine_numbers.specs.Fields.{as_S8, resting_named, settings_named, named};
-ghost use Rattle.machine_numbers.specs.Fields.{no_machine, no_settings, unopened, is_no_machine};
-ghost use Rattle.machine_numbers.specs.Views.{found_as, named_as};
+ghost use Rattle.machine_numbers.specs.Fields.{no_machine, is_no_machine};
+ghost use Rattle.machine_numbers.specs.Views.{thumb_as, found_as, named_as};
 ghost use Rattle.machine_numbers.specs.Formed.{formed, rest_formed, thumb_at, second_at, resting_at, machine_at};
 
 use held::held_formed;
 use pairs::is_pair;
 use rules::{Key, Machine, Resting, Settings, Stamp, Thumb};
-use waits::{at_or_before, is_key};
+use waits::is_key;
 
 // A field that a state does not use is 0. Stamps keep their type, so that a number of another clock is not taken for one in C either.
 // Nothing is left between the fields or behind them, so a struct in C is these numbers and no more.
 #[repr(C)]
-#[derive(Clone, Copy)]
+#[derive(Clone, Copy, PartialEq, Eq)]
 pub struct MachineNumbers {
     // The last accepted stamp.
     pub last: Stamp,
@@ -57,251 +57,199 @@ const KEY_NUMBERS: u32 = 256;
 // The stamp that a state does not use.
 const UNUSED: Stamp = Stamp(0);
 
-// The machine that numbers name, if they name one.
-#[derive(Clone, Copy)]
-pub enum Named {
-    None,
-    Some(Machine),
-}
-
-// What rests, if the numbers name it.
-#[derive(Clone, Copy)]
-enum Found {
-    None,
-    Some(Resting),
-}
-
+// 0 is the left thumb, 1 the right one.
+#[tactic(auto, unfolding(crate::specs::Fields::thumb_number))]
 fn thumb_number(thumb: Thumb) -> u8
     ensures { result ≡ thumb_number thumb }
 {
-    match thumb {
-        Thumb::Left => 0,
-        Thumb::Right => 1,
-    }
+    thumb as u8
 }
 
-// The numbers of a machine, given those of what rests.
-fn join(
-    machine: Machine,
-    state: u8,
-    key: u8,
-    m: Stamp,
-    second: u8,
-    k: Stamp,
-    thumb: u8,
-    o: Stamp,
-    r: Stamp,
-) -> MachineNumbers
-    ensures { result ≡
-        joined machine (record { state = state; key = key; m = m; second = second; k = k; thumb = thumb; o = o; r = r }) }
+fn thumb_named(number: u8) -> Option<Thumb>
+    ensures { thumb_as result ≡ (if eqb number 0 then some Left orelse (if eqb number 1 then some Right orelse none)) }
 {
-    let s = machine.settings;
-    let last = machine.last;
-    MachineNumbers {
-        last: last,
-        m: m,
-        k: k,
-        o: o,
-        r: r,
-        held: machine.held,
-        second: second as u32,
-        t: s.t,
-        j: s.j,
-        l: s.l,
-        solo: s.solo,
-        state: state,
-        key: key,
-        thumb: thumb,
+    match number {
+        0 => Some(Thumb::Left),
+        1 => Some(Thumb::Right),
+        _ => None,
     }
-}
-
-// The same in a state in which no second character waits.
-fn join_one(
-    machine: Machine,
-    state: u8,
-    key: u8,
-    m: Stamp,
-    thumb: u8,
-    o: Stamp,
-    r: Stamp,
-) -> MachineNumbers
-    ensures { result ≡
-        joined machine (record { state = state; key = key; m = m; second = 0; k = at 0; thumb = thumb; o = o; r = r }) }
-{
-    join(machine, state, key, m, 0, UNUSED, thumb, o, r)
 }
 
 // The numbers of any machine, well formed or not.
+#[tactic(auto, unfolding(crate::specs::Fields::in_numbers))]
 pub fn in_numbers(machine: Machine) -> MachineNumbers
     ensures { result ≡ in_numbers machine }
 {
-    let resting = machine.resting;
-    match resting {
-        Resting::S1 => join_one(machine, 1, 0, UNUSED, 0, UNUSED, UNUSED),
-        Resting::S2(key, m) => join_one(machine, 2, key.0, m, 0, UNUSED, UNUSED),
-        Resting::S3(thumb, o) => { join_one(machine, 3, 0, UNUSED, thumb_number(thumb), o, UNUSED) }
-        Resting::S4(key, m, thumb, o) => {
-            join_one(machine, 4, key.0, m, thumb_number(thumb), o, UNUSED)
-        }
-        Resting::S5(thumb, o, key, m) => {
-            join_one(machine, 5, key.0, m, thumb_number(thumb), o, UNUSED)
-        }
-        Resting::S6(thumb, o, key, m, r) => {
-            join_one(machine, 6, key.0, m, thumb_number(thumb), o, r)
-        }
-        Resting::S7(key, m, second, k) => {
-            join(machine, 7, key.0, m, second.0, k, 0, UNUSED, UNUSED)
-        }
-        Resting::S8(key, m, second, k, r) => {
-            join(machine, 8, key.0, m, second.0, k, 0, UNUSED, r)
-        }
+    let numbers = MachineNumbers {
+        last: machine.last,
+        held: machine.held,
+        t: machine.settings.t,
+        j: machine.settings.j,
+        l: machine.settings.l,
+        solo: machine.settings.solo,
+        ..no_machine()
+    };
+    match machine.resting {
+        Resting::S1 => MachineNumbers {
+            state: 1,
+            ..numbers
+        },
+        Resting::S2(key, m) => MachineNumbers {
+            state: 2,
+            key: key.0,
+            m,
+            ..numbers
+        },
+        Resting::S3(thumb, o) => MachineNumbers {
+            state: 3,
+            thumb: thumb_number(thumb),
+            o,
+            ..numbers
+        },
+        Resting::S4(key, m, thumb, o) => MachineNumbers {
+            state: 4,
+            key: key.0,
+            m,
+            thumb: thumb_number(thumb),
+            o,
+            ..numbers
+        },
+        Resting::S5(thumb, o, key, m) => MachineNumbers {
+            state: 5,
+            thumb: thumb_number(thumb),
+            o,
+            key: key.0,
+            m,
+            ..numbers
+        },
+        Resting::S6(thumb, o, key, m, r) => MachineNumbers {
+            state: 6,
+            thumb: thumb_number(thumb),
+            o,
+            key: key.0,
+            m,
+            r,
+            ..numbers
+        },
+        Resting::S7(key, m, second, k) => MachineNumbers {
+            state: 7,
+            key: key.0,
+            m,
+            second: second.0 as u32,
+            k,
+            ..numbers
+        },
+        Resting::S8(key, m, second, k, r) => MachineNumbers {
+            state: 8,
+            key: key.0,
+            m,
+            second: second.0 as u32,
+            k,
+            r,
+            ..numbers
+        },
     }
 }
 
-// Both are asked, so that neither costs a branch.
-fn both(a: bool, b: bool) -> bool
-    ensures { result ≡ a && b }
-{
-    if a {
-        return b;
-    }
-    false
-}
-
+// Where several tests of numbers are asked, `&` asks them all, so that none costs a branch.
+#[tactic(auto, unfolding(crate::specs::Fields::no_character))]
 fn no_character(numbers: MachineNumbers) -> bool
     ensures { result ≡ no_character numbers }
 {
     numbers.key == 0 && numbers.m.0 == 0
 }
 
+#[tactic(auto, unfolding(crate::specs::Fields::no_second))]
 fn no_second(numbers: MachineNumbers) -> bool
     ensures { result ≡ no_second numbers }
 {
     numbers.second == 0 && numbers.k.0 == 0
 }
 
+#[tactic(auto, unfolding(crate::specs::Fields::second_fits))]
 fn second_fits(numbers: MachineNumbers) -> bool
     ensures { result ≡ second_fits numbers }
 {
     numbers.second < KEY_NUMBERS
 }
 
+#[tactic(auto, unfolding(crate::specs::Fields::no_thumb))]
 fn no_thumb(numbers: MachineNumbers) -> bool
     ensures { result ≡ no_thumb numbers }
 {
     numbers.thumb == 0 && numbers.o.0 == 0
 }
 
+#[tactic(auto, unfolding(crate::specs::Fields::no_release))]
 fn no_release(numbers: MachineNumbers) -> bool
     ensures { result ≡ no_release numbers }
 {
     numbers.r.0 == 0
 }
 
-// A thumb's number: 0 is the left one, 1 the right one.
-fn with_thumb(number: u8, left: Resting, right: Resting) -> Found
-    ensures { found_as result ≡ (if eqb number 0 then some left orelse (if eqb number 1 then some right orelse none)) }
-{
-    match number {
-        0 => Found::Some(left),
-        1 => Found::Some(right),
-        _ => Found::None, // no thumb
-    }
-}
-
 // One function for each state. It wants 0 in what the state does not use, so that a machine has one form in numbers only.
-fn as_s1(numbers: MachineNumbers) -> Found
+#[tactic(auto, unfolding(crate::specs::Fields::as_S1))]
+fn as_s1(numbers: MachineNumbers) -> Option<Resting>
     ensures { found_as result ≡ as_S1 numbers }
 {
-    if both(
-        both(
-            both(no_character(numbers), no_second(numbers)),
-            no_thumb(numbers),
-        ),
-        no_release(numbers),
-    ) {
-        return Found::Some(Resting::S1);
+    if no_character(numbers) & no_second(numbers) & no_thumb(numbers) & no_release(numbers) {
+        return Some(Resting::S1);
     }
-    Found::None
+    None
 }
 
-fn as_s2(numbers: MachineNumbers) -> Found
+#[tactic(auto, unfolding(crate::specs::Fields::as_S2))]
+fn as_s2(numbers: MachineNumbers) -> Option<Resting>
     ensures { found_as result ≡ as_S2 numbers }
 {
-    if both(
-        both(no_second(numbers), no_thumb(numbers)),
-        no_release(numbers),
-    ) {
-        let m = numbers.m;
-        return Found::Some(Resting::S2(Key(numbers.key), m));
+    if no_second(numbers) & no_thumb(numbers) & no_release(numbers) {
+        return Some(Resting::S2(Key(numbers.key), numbers.m));
     }
-    Found::None
+    None
 }
 
-fn as_s3(numbers: MachineNumbers) -> Found
+#[tactic(auto, unfolding(crate::specs::Fields::as_S3))]
+fn as_s3(numbers: MachineNumbers) -> Option<Resting>
     ensures { found_as result ≡ as_S3 numbers }
 {
-    if both(
-        both(no_character(numbers), no_second(numbers)),
-        no_release(numbers),
-    ) {
-        let o = numbers.o;
-        return with_thumb(
-            numbers.thumb,
-            Resting::S3(Thumb::Left, o),
-            Resting::S3(Thumb::Right, o),
-        );
+    if no_character(numbers) & no_second(numbers) & no_release(numbers) {
+        let thumb = thumb_named(numbers.thumb)?;
+        return Some(Resting::S3(thumb, numbers.o));
     }
-    Found::None
+    None
 }
 
-fn as_s4(numbers: MachineNumbers) -> Found
+#[tactic(auto, unfolding(crate::specs::Fields::as_S4))]
+fn as_s4(numbers: MachineNumbers) -> Option<Resting>
     ensures { found_as result ≡ as_S4 numbers }
 {
-    if both(no_second(numbers), no_release(numbers)) {
-        let key = Key(numbers.key);
-        let m = numbers.m;
-        let o = numbers.o;
-        return with_thumb(
-            numbers.thumb,
-            Resting::S4(key, m, Thumb::Left, o),
-            Resting::S4(key, m, Thumb::Right, o),
-        );
+    if no_second(numbers) & no_release(numbers) {
+        let thumb = thumb_named(numbers.thumb)?;
+        return Some(Resting::S4(Key(numbers.key), numbers.m, thumb, numbers.o));
     }
-    Found::None
+    None
 }
 
-fn as_s5(numbers: MachineNumbers) -> Found
+#[tactic(auto, unfolding(crate::specs::Fields::as_S5))]
+fn as_s5(numbers: MachineNumbers) -> Option<Resting>
     ensures { found_as result ≡ as_S5 numbers }
 {
-    if both(no_second(numbers), no_release(numbers)) {
-        let key = Key(numbers.key);
-        let m = numbers.m;
-        let o = numbers.o;
-        return with_thumb(
-            numbers.thumb,
-            Resting::S5(Thumb::Left, o, key, m),
-            Resting::S5(Thumb::Right, o, key, m),
-        );
+    if no_second(numbers) & no_release(numbers) {
+        let thumb = thumb_named(numbers.thumb)?;
+        return Some(Resting::S5(thumb, numbers.o, Key(numbers.key), numbers.m));
     }
-    Found::None
+    None
 }
 
-fn as_s6(numbers: MachineNumbers) -> Found
+#[tactic(auto, unfolding(crate::specs::Fields::as_S6))]
+fn as_s6(numbers: MachineNumbers) -> Option<Resting>
     ensures { found_as result ≡ as_S6 numbers }
 {
     if no_second(numbers) {
-        let key = Key(numbers.key);
-        let m = numbers.m;
-        let o = numbers.o;
-        let r = numbers.r;
-        return with_thumb(
-            numbers.thumb,
-            Resting::S6(Thumb::Left, o, key, m, r),
-            Resting::S6(Thumb::Right, o, key, m, r),
-        );
+        let thumb = thumb_named(numbers.thumb)?;
+        return Some(Resting::S6(thumb, numbers.o, Key(numbers.key), numbers.m, numbers.r));
     }
-    Found::None
+    None
 }
 
 // K, where its number fits: the machine's type has 8 bits for it.
@@ -311,38 +259,38 @@ fn second_at(numbers: MachineNumbers) -> Key
     Key((numbers.second & 0xFF) as u8)
 }
 
-fn as_s7(numbers: MachineNumbers) -> Found
+#[tactic(auto, using(crate::proofs::Forms::second_same), unfolding(crate::specs::Fields::as_S7))]
+fn as_s7(numbers: MachineNumbers) -> Option<Resting>
     ensures { found_as result ≡ as_S7 numbers }
 {
-    if both(
-        both(no_thumb(numbers), no_release(numbers)),
-        second_fits(numbers),
-    ) {
-        let m = numbers.m;
-        let k = numbers.k;
-        return Found::Some(Resting::S7(Key(numbers.key), m, second_at(numbers), k));
+    if no_thumb(numbers) & no_release(numbers) & second_fits(numbers) {
+        return Some(Resting::S7(Key(numbers.key), numbers.m, second_at(numbers), numbers.k));
     }
-    Found::None
+    None
 }
 
-fn as_s8(numbers: MachineNumbers) -> Found
+#[tactic(auto, using(crate::proofs::Forms::second_same), unfolding(crate::specs::Fields::as_S8))]
+fn as_s8(numbers: MachineNumbers) -> Option<Resting>
     ensures { found_as result ≡ as_S8 numbers }
 {
-    if both(no_thumb(numbers), second_fits(numbers)) {
-        let m = numbers.m;
-        let k = numbers.k;
-        let r = numbers.r;
-        return Found::Some(Resting::S8(Key(numbers.key), m, second_at(numbers), k, r));
+    if no_thumb(numbers) & second_fits(numbers) {
+        return Some(Resting::S8(
+            Key(numbers.key),
+            numbers.m,
+            second_at(numbers),
+            numbers.k,
+            numbers.r,
+        ));
     }
-    Found::None
+    None
 }
 
 // What rests, by the number of the state.
-fn find(numbers: MachineNumbers) -> Found
+#[tactic(auto, unfolding(crate::specs::Fields::resting_named))]
+fn find(numbers: MachineNumbers) -> Option<Resting>
     ensures { found_as result ≡ resting_named numbers }
 {
-    let state = numbers.state;
-    match state {
+    match numbers.state {
         1 => as_s1(numbers),
         2 => as_s2(numbers),
         3 => as_s3(numbers),
@@ -351,7 +299,7 @@ fn find(numbers: MachineNumbers) -> Found
         6 => as_s6(numbers),
         7 => as_s7(numbers),
         8 => as_s8(numbers),
-        _ => Found::None, // no state
+        _ => None, // no state
     }
 }
 
@@ -366,21 +314,18 @@ fn settings_of(numbers: MachineNumbers) -> Settings
     }
 }
 
-// The machine that numbers name. Whether it is well formed is asked of the machine.
-pub fn machine_of(numbers: MachineNumbers) -> Named
+// The machine that numbers name, if they name one. Whether it is well formed is asked of the machine.
+#[tactic(auto, unfolding(crate::specs::Fields::named))]
+pub fn machine_of(numbers: MachineNumbers) -> Option<Machine>
     ensures { named_as result ≡ named numbers }
 {
-    let settings = settings_of(numbers);
-    let last = numbers.last;
-    match find(numbers) {
-        Found::None => Named::None,
-        Found::Some(resting) => Named::Some(Machine {
-            settings: settings,
-            resting: resting,
-            last: last,
-            held: numbers.held,
-        }),
-    }
+    let resting = find(numbers)?;
+    Some(Machine {
+        settings: settings_of(numbers),
+        resting,
+        last: numbers.last,
+        held: numbers.held,
+    })
 }
 
 // Numbers that name no machine: there is no state 0.
@@ -405,51 +350,11 @@ pub fn no_machine() -> MachineNumbers
     }
 }
 
-fn no_settings(numbers: MachineNumbers) -> bool
-    ensures { result ≡ no_settings numbers }
-{
-    if numbers.t != 0 {
-        return false;
-    }
-    if numbers.j != 0 {
-        return false;
-    }
-    if numbers.l != 0 {
-        return false;
-    }
-    numbers.solo == 0
-}
-
-// No state, no last stamp, no held key and no settings.
-fn unopened(numbers: MachineNumbers) -> bool
-    ensures { result ≡ unopened numbers }
-{
-    if numbers.state != 0 {
-        return false;
-    }
-    if numbers.last.0 != 0 {
-        return false;
-    }
-    if numbers.held != 0 {
-        return false;
-    }
-    no_settings(numbers)
-}
-
 // Whether every number is 0.
 pub fn is_no_machine(numbers: MachineNumbers) -> bool
     ensures { result ≡ is_no_machine numbers }
 {
-    both(
-        both(
-            both(
-                both(unopened(numbers), no_character(numbers)),
-                no_second(numbers),
-            ),
-            no_thumb(numbers),
-        ),
-        no_release(numbers),
-    )
+    numbers == no_machine()
 }
 
 fn is_thumb(number: u8) -> bool
@@ -459,138 +364,92 @@ fn is_thumb(number: u8) -> bool
 }
 
 // One function for each state: whether what rests is named, and well formed by the last stamp and the list.
+#[tactic(auto, using(crate::proofs::Forms::in_1))]
 fn s1_formed(list: &[u32], numbers: MachineNumbers) -> bool
     ensures { result ≡ rest_formed (of_list list.now) numbers.last (as_S1 numbers) }
 {
-    both(
-        both(
-            both(no_character(numbers), no_second(numbers)),
-            no_thumb(numbers),
-        ),
-        no_release(numbers),
-    )
+    no_character(numbers) & no_second(numbers) & no_thumb(numbers) & no_release(numbers)
 }
 
+#[tactic(auto, using(crate::proofs::Forms::in_2, waits::proofs::Order::le_is))]
 fn s2_formed(list: &[u32], numbers: MachineNumbers) -> bool
     ensures { result ≡ rest_formed (of_list list.now) numbers.last (as_S2 numbers) }
 {
-    let m = numbers.m;
-    let last = numbers.last;
-    let named = both(
-        both(no_second(numbers), no_thumb(numbers)),
-        no_release(numbers),
-    );
-    both(named, both(is_key(Key(numbers.key)), at_or_before(m, last)))
+    let MachineNumbers { last, m, .. } = numbers;
+    let named = no_second(numbers) & no_thumb(numbers) & no_release(numbers);
+    named & (is_key(Key(numbers.key)) & (m <= last))
 }
 
+#[tactic(auto, using(crate::proofs::Forms::in_3, waits::proofs::Order::le_is))]
 fn s3_formed(list: &[u32], numbers: MachineNumbers) -> bool
     ensures { result ≡ rest_formed (of_list list.now) numbers.last (as_S3 numbers) }
 {
-    let o = numbers.o;
-    let last = numbers.last;
-    let named = both(
-        both(no_character(numbers), no_second(numbers)),
-        no_release(numbers),
-    );
-    both(named, both(is_thumb(numbers.thumb), at_or_before(o, last)))
+    let MachineNumbers { last, o, .. } = numbers;
+    let named = no_character(numbers) & no_second(numbers) & no_release(numbers);
+    named & (is_thumb(numbers.thumb) & (o <= last))
 }
 
+#[tactic(auto, using(crate::proofs::Forms::in_4, waits::proofs::Order::le_is))]
 fn s4_formed(list: &[u32], numbers: MachineNumbers) -> bool
     ensures { result ≡ rest_formed (of_list list.now) numbers.last (as_S4 numbers) }
 {
-    let m = numbers.m;
-    let o = numbers.o;
-    let last = numbers.last;
-    let by = both(at_or_before(m, last), at_or_before(o, last));
-    let stamps = both(by, at_or_before(m, o));
-    let named = both(no_second(numbers), no_release(numbers));
-    both(
-        named,
-        both(
-            is_thumb(numbers.thumb),
-            both(is_key(Key(numbers.key)), stamps),
-        ),
-    )
+    let MachineNumbers { last, m, o, .. } = numbers;
+    let stamps = (m <= last) & (o <= last) & (m <= o);
+    let named = no_second(numbers) & no_release(numbers);
+    named & (is_thumb(numbers.thumb) & (is_key(Key(numbers.key)) & stamps))
 }
 
+#[tactic(auto, using(crate::proofs::Forms::in_5, waits::proofs::Order::le_is))]
 fn s5_formed(list: &[u32], numbers: MachineNumbers) -> bool
     ensures { result ≡ rest_formed (of_list list.now) numbers.last (as_S5 numbers) }
 {
-    let m = numbers.m;
-    let o = numbers.o;
-    let last = numbers.last;
-    let by = both(at_or_before(o, last), at_or_before(m, last));
-    let stamps = both(by, at_or_before(o, m));
-    let named = both(no_second(numbers), no_release(numbers));
-    both(
-        named,
-        both(
-            is_thumb(numbers.thumb),
-            both(is_key(Key(numbers.key)), stamps),
-        ),
-    )
+    let MachineNumbers { last, m, o, .. } = numbers;
+    let stamps = (o <= last) & (m <= last) & (o <= m);
+    let named = no_second(numbers) & no_release(numbers);
+    named & (is_thumb(numbers.thumb) & (is_key(Key(numbers.key)) & stamps))
 }
 
+#[tactic(auto, using(crate::proofs::Forms::in_6, waits::proofs::Order::le_is))]
 fn s6_formed(list: &[u32], numbers: MachineNumbers) -> bool
     ensures { result ≡ rest_formed (of_list list.now) numbers.last (as_S6 numbers) }
 {
-    let m = numbers.m;
-    let o = numbers.o;
-    let r = numbers.r;
-    let last = numbers.last;
-    let two = both(at_or_before(o, last), at_or_before(m, last));
-    let by = both(two, at_or_before(r, last));
-    let stamps = both(by, both(at_or_before(o, m), at_or_before(m, r)));
-    both(
-        no_second(numbers),
-        both(
-            is_thumb(numbers.thumb),
-            both(is_key(Key(numbers.key)), stamps),
-        ),
-    )
+    let MachineNumbers { last, m, o, r, .. } = numbers;
+    let stamps = (o <= last) & (m <= last) & (r <= last) & ((o <= m) & (m <= r));
+    no_second(numbers) & (is_thumb(numbers.thumb) & (is_key(Key(numbers.key)) & stamps))
 }
 
+#[tactic(auto, using(crate::proofs::Forms::in_7, waits::proofs::Order::le_is))]
 fn s7_formed(list: &[u32], numbers: MachineNumbers) -> bool
     ensures { result ≡ rest_formed (of_list list.now) numbers.last (as_S7 numbers) }
 {
-    let m = numbers.m;
-    let k = numbers.k;
-    let last = numbers.last;
+    let MachineNumbers { last, m, k, .. } = numbers;
     let key = Key(numbers.key);
     let second = second_at(numbers);
-    let named = both(
-        both(no_thumb(numbers), no_release(numbers)),
-        second_fits(numbers),
-    );
-    let by = both(at_or_before(m, last), at_or_before(k, last));
-    let stamps = both(by, at_or_before(m, k));
-    let keys = both(is_key(key), is_key(second));
-    both(named, both(both(keys, stamps), is_pair(list, key, second)))
+    let named = no_thumb(numbers) & no_release(numbers) & second_fits(numbers);
+    let stamps = (m <= last) & (k <= last) & (m <= k);
+    let keys = is_key(key) & is_key(second);
+    named & (keys & stamps & is_pair(list, key, second))
 }
 
+#[tactic(auto, using(crate::proofs::Forms::in_8, waits::proofs::Order::le_is))]
 fn s8_formed(list: &[u32], numbers: MachineNumbers) -> bool
     ensures { result ≡ rest_formed (of_list list.now) numbers.last (as_S8 numbers) }
 {
-    let m = numbers.m;
-    let k = numbers.k;
-    let r = numbers.r;
-    let last = numbers.last;
+    let MachineNumbers { last, m, k, r, .. } = numbers;
     let key = Key(numbers.key);
     let second = second_at(numbers);
-    let named = both(no_thumb(numbers), second_fits(numbers));
-    let two = both(at_or_before(m, last), at_or_before(k, last));
-    let by = both(two, at_or_before(r, last));
-    let stamps = both(by, both(at_or_before(m, k), at_or_before(k, r)));
-    let keys = both(is_key(key), is_key(second));
-    both(named, both(both(keys, stamps), is_pair(list, key, second)))
+    let named = no_thumb(numbers) & second_fits(numbers);
+    let stamps = (m <= last) & (k <= last) & (r <= last) & ((m <= k) & (k <= r));
+    let keys = is_key(key) & is_key(second);
+    named & (keys & stamps & is_pair(list, key, second))
 }
 
 // One arm for each state.
+#[tactic(auto, unfolding(crate::specs::Fields::resting_named))]
 fn rests_formed(list: &[u32], numbers: MachineNumbers) -> bool
     ensures { result ≡ rest_formed (of_list list.now) numbers.last (resting_named numbers) }
 {
-    let state = numbers.state;
-    match state {
+    match numbers.state {
         1 => s1_formed(list, numbers),
         2 => s2_formed(list, numbers),
         3 => s3_formed(list, numbers),
@@ -604,37 +463,35 @@ fn rests_formed(list: &[u32], numbers: MachineNumbers) -> bool
 }
 
 // Whether numbers name a machine that is well formed. It is asked of the numbers themselves: no machine is made.
+#[tactic(auto, using(crate::proofs::Forms::by_tests, waits::proofs::Order::le_is))]
 pub fn is_formed(list: &[u32], numbers: MachineNumbers) -> bool
     ensures { result ≡ formed (of_list list.now) numbers }
 {
     let settings = settings_of(numbers);
-    let last = numbers.last;
-    let held = held_formed(numbers.held);
-    let bounds = both(settings.in_range(), at_or_before(last, Machine::LARGEST));
-    both(both(bounds, held), rests_formed(list, numbers))
+    let bounds = settings.in_range() & (numbers.last <= Machine::LARGEST);
+    bounds & held_formed(numbers.held) & rests_formed(list, numbers)
 }
 
+#[tactic(auto, unfolding(crate::specs::Formed::thumb_at))]
 fn thumb_at(number: u8) -> Thumb
     ensures { result ≡ thumb_at number }
 {
     if number == 0 {
-        return Thumb::Left;
+        Thumb::Left
+    } else {
+        Thumb::Right
     }
-    Thumb::Right
 }
 
+#[tactic(auto, unfolding(crate::specs::Formed::resting_at))]
 fn resting_at(numbers: MachineNumbers) -> Resting
     ensures { result ≡ resting_at numbers }
 {
-    let state = numbers.state;
-    let m = numbers.m;
-    let k = numbers.k;
-    let o = numbers.o;
-    let r = numbers.r;
+    let MachineNumbers { m, k, o, r, .. } = numbers;
     let key = Key(numbers.key);
     let second = second_at(numbers);
     let thumb = thumb_at(numbers.thumb);
-    match state {
+    match numbers.state {
         2 => Resting::S2(key, m),
         3 => Resting::S3(thumb, o),
         4 => Resting::S4(key, m, thumb, o),
@@ -647,14 +504,14 @@ fn resting_at(numbers: MachineNumbers) -> Resting
 }
 
 // A machine for any numbers, for a caller who knows that they name one: it is that one, and nothing is asked again.
+#[tactic(auto, unfolding(crate::specs::Formed::machine_at))]
 pub fn machine_at(numbers: MachineNumbers) -> Machine
     ensures { result ≡ machine_at numbers }
 {
-    let last = numbers.last;
     Machine {
         settings: settings_of(numbers),
         resting: resting_at(numbers),
-        last: last,
+        last: numbers.last,
         held: numbers.held,
     }
 }

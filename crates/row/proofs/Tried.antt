@@ -3,7 +3,11 @@ use Prim.Native.Nat.{ℕ}
 use mathlib.Core.List.{List, [], ◌∷◌, map}
 use mathlib.Core.Path.{◌≡◌, refl, ap}
 use lib.Count.{ones_in}
-use lib.Dec.{lit≤}
+use lib.Dec.{lit≤, eqb}
+use Rattle.std.specs.Prelude.{Result}
+use Rattle.choice.proofs.Choices.{both_ways}
+use Rattle.rules.specs.declared.Refusal.{Refusal}
+use Rattle.row.specs.declared.Told.{Told}
 use lib.ListN.{get_or}
 use Rattle.rules.specs.Numbers.{in_range, up, A, B, FJ, FL}
 use Rattle.rules.specs.Pairs.{Lent, pair_of, in_some_pair, none_twice, each_good, lent_good, no_pairs, alone}
@@ -18,40 +22,46 @@ use Rattle.rules.specs.Distance.{asking_with, asking}
 use Rattle.rules.specs.Examples.{usual, with_solo}
 use Rattle.rules.specs.declared.Machine.{Machine}
 use Rattle.rules.proofs.Tried.{all_stay}
-use Rattle.rules.specs.Items.{listed}
 use Rattle.preview.specs.Views.{sending_list, packed_sendings}
 use Rattle.row.specs.Row.{keyboard, RowAnswer, step_at, asking_at}
-use Rattle.row.specs.Views.{TellsAt}
+use Rattle.row.specs.Views.{told_number, told_items, told_sendings, TellsAt}
 use Rattle.row.specs.RowFacts.{Found}
 use Rattle.row.specs.RowRuns.{RowEvent, row_step, events_of}
 use Rattle.row.specs.RowCalls.{Called, HandedOn, no_call, handed, no_more, call}
 use Rattle.row.specs.Tried.{at_board, row_answers, two, mixed, others, later_on, Computed, CalledWith, Met}
-use Rattle.row.proofs.RowCalls.{packed_items, row_of_the_code}
+use Rattle.row.proofs.RowCalls.{packed_told, row_of_the_code}
 
 -- a call that answers and leaves what the definition says, where its items and sendings are ones that can be told
+abbrev as_told : RowAnswer → Result Told Refusal
+as_told a = packed_told (record { number = a.number; items = a.items; sendings = a.sendings })
+
 abbrev called : RowAnswer → Called
-called a =
-    record {
-      told = record { number = a.number; items = packed_items a.items; sendings = packed_sendings a.sendings };
-      row = a.row;
-    }
+called a = record { told = as_told a; row = a.row }
 
 abbrev read_back : RowAnswer → RowAnswer
 read_back a =
     record {
-      number = a.number;
-      items = listed (packed_items a.items);
-      sendings = sending_list (packed_sendings a.sendings);
+      number = told_number (as_told a);
+      items = told_items (as_told a);
+      sendings = sending_list (told_sendings (as_told a));
       row = a.row;
     }
+
+packed_again : (a : RowAnswer) → sending_list (told_sendings (as_told a)) ≡ a.sendings → told_sendings (as_told a) ≡ packed_sendings a.sendings
+packed_again a =
+    both_ways
+    (λ (r : Result Told Refusal). sending_list (told_sendings r) ≡ a.sendings → told_sendings r ≡ packed_sendings a.sendings)
+    (eqb a.number 0)
+    (λ h. refl)
+    (λ h. ap packed_sendings h)
 
 tells : (a : RowAnswer) → read_back a ≡ a → TellsAt (called a).told a
 tells a h =
     record {
-      number_is = refl;
+      number_is = ap (λ (z : RowAnswer). z.number) h;
       items_are = ap (λ (z : RowAnswer). z.items) h;
       sendings_are = ap (λ (z : RowAnswer). z.sendings) h;
-      packed = refl;
+      packed = packed_again a (ap (λ (z : RowAnswer). z.sendings) h);
     }
 
 same_head : {a b : RowAnswer} {l k : List RowAnswer} → a ∷ l ≡ b ∷ k → a ≡ b

@@ -1,7 +1,8 @@
 -- Document 02, 10/12: what a caller of `row::step_at` and `row::distance_at` has who lends one list, T_s and N at every call (g). Calls are
 -- said by the contracts of the two functions, in their own words, and those hold at every input. The record at the end is proved in
 -- proofs/RowCalls.antt: isolation, demand 3, the last stamp and the moved clock, each of what the functions answer and leave.
-use Rattle.std.specs.Prelude.{ℕ, ◌<◌, true, List, [], ◌∷◌, ◌++◌, map, ◌↔◌, ◌≡◌, eqb}
+use Rattle.std.specs.Prelude as code
+use Rattle.std.specs.Prelude.{ℕ, ℤ, ◌<◌, true, List, [], ◌∷◌, ◌++◌, map, ◌↔◌, ◌≡◌, eqb, Result, Ok, Err}
 use Rattle.std.proofs.Math.Option.{Option, none, some}
 use Rattle.std.proofs.Math.ListN.{get_elem?}
 use Rattle.choice.specs.Choice.{if◌then◌orelse◌}
@@ -14,20 +15,19 @@ use Rattle.rules.specs.MovedClock.{moved_events, moved_state, Stays, AllStay, la
 use Rattle.rules.specs.declared.Stamp.{Stamp}
 use Rattle.rules.specs.declared.Settings.{Settings}
 use Rattle.rules.specs.declared.Machine.{Machine}
-use Rattle.rules.specs.declared.Opened.TheVariants.{Ready}
 use Rattle.rules.specs.declared.Event.{Event}
-use Rattle.engine.specs.Calls.{Calls, last_machine, OfTheCode}
-use Rattle.engine.specs.declared.Stepped.{Stepped}
+use Rattle.rules.specs.declared.Refusal.{Refusal}
+use Rattle.deadlines.specs.Views.{asked}
+use Rattle.engine.specs.Calls.{Given, Calls, last_machine, OfTheCode}
 use Rattle.row.specs.Row.{step_at, asking_at}
-use Rattle.row.specs.Views.{TellsAt, asked_at}
+use Rattle.row.specs.Views.{TellsAt, told_number}
 use Rattle.row.specs.RowFacts.{Found}
 use Rattle.row.specs.RowRuns.{RowEvent, row_step, events_of}
 use Rattle.row.specs.declared.Told.{Told}
-use Rattle.row.specs.declared.AskedAt.{AskedAt}
 
 -- What a call of `step_at` answers, and the row that it leaves: by the contract of that function.
 pub record Called : Type 0 where
-  pub told : Told
+  pub told : Result Told Refusal
   pub row : List Machine
 
 abbrev pub CallsAt : Lent → List Machine → RowEvent → Called → Type 0
@@ -60,15 +60,16 @@ RowHandedOn =
     → HandedOn g row xs cs → Found row k m → RowCalls g k m xs cs
 
 -- what a keyboard has of a call: what is told, and its machine in the row
-abbrev pub own_answer : Told → Machine → Stepped
-own_answer t m = record { number = t.number; items = t.items; sendings = t.sendings; machine = m }
+abbrev pub own_answer : Result Told Refusal → Machine → Given
+own_answer (Ok t) m = Ok (record { items = t.items; sendings = t.sendings; machine = m })
+own_answer (Err e) m = Err e
 
-abbrev pub answer_in : Called → Option Machine → List Stepped
+abbrev pub answer_in : Called → Option Machine → List Given
 answer_in c none = []
 answer_in c (some m) = own_answer c.told m ∷ []
 
 -- what keyboard k has, an entry for each of its calls
-abbrev pub answers_of : ℕ → List RowEvent → List Called → List Stepped
+abbrev pub answers_of : ℕ → List RowEvent → List Called → List Given
 answers_of k [] cs = []
 answers_of k (x ∷ xs) [] = []
 answers_of k (x ∷ xs) (c ∷ cs) = (if eqb x.board k then answer_in c (get_elem? c.row k) orelse []) ++ answers_of k xs cs
@@ -84,18 +85,22 @@ OwnCalls =
     (g : Lent) (k : ℕ) (m : Machine) (xs : List RowEvent) (cs : List Called) → RowCalls g k m xs cs
     → Calls g m (events_of k xs) (answers_of k xs cs)
 
+-- what `distance_at` answers
+abbrev pub Distance : Type 0
+Distance = Result (code.Option ℤ) Refusal
+
 -- An answer of `distance_at`, by its contract, at some row in which keyboard k has the machine m.
-pub record AsksAt (g : Lent) (k : ℕ) (m : Machine) (now : Stamp) (r : AskedAt) : Type 0 where
+pub record AsksAt (g : Lent) (k : ℕ) (m : Machine) (now : Stamp) (r : Distance) : Type 0 where
   pub row : List Machine
   pub found : Found row k m
-  pub asks : asked_at r ≡ asking_at g row k now
+  pub asks : asked r ≡ asking_at g row k now
 
 -- Two callers, keyboard k of the one's row and keyboard j of the other's: at each call at it the same number, items, sendings and machine
 -- afterwards, and then the same distances.
 pub record SameOfTheCode (g : Lent) (k j : ℕ) (m : Machine) (xs ys : List RowEvent) (cs ds : List Called) : Type 0 where
   pub same_answers : answers_of k xs cs ≡ answers_of j ys ds
-  pub same_asked : (now : Stamp) (r o : AskedAt) → AsksAt g k (machine_of k m xs cs) now r → AsksAt g j (machine_of j m ys ds) now o
-      → asked_at r ≡ asked_at o
+  pub same_asked : (now : Stamp) (r o : Distance) → AsksAt g k (machine_of k m xs cs) now r → AsksAt g j (machine_of j m ys ds) now o
+      → asked r ≡ asked o
 
 -- One keyboard gets the same events from the same machine, whatever it is, whatever the others hold or get, and whatever its place in the
 -- two rows is.
@@ -111,38 +116,39 @@ pub record OfTheRow (g : Lent) (k : ℕ) (s : Settings) (m : Machine) (xs : List
   -- the machine and every reading of its calls are those of its own events from a fresh state, and of those demand 3 holds
   pub of_the_code : OfTheCode g s m (events_of k xs) (answers_of k xs cs)
   -- so is what it answers when asked
-  pub same_asked : (now : Stamp) (r : AskedAt) → AsksAt g k (machine_of k m xs cs) now r
-      → asked_at r ≡ asking g (state g s (events_of k xs)) now
+  pub same_asked : (now : Stamp) (r : Distance) → AsksAt g k (machine_of k m xs cs) now r
+      → asked r ≡ asking g (state g s (events_of k xs)) now
   -- Stamps of different keyboards are never compared: its next event, that no earlier check refuses, is refused 5 exactly when its stamp
   -- is before that of the last event which was accepted at this keyboard.
-  pub own_last_stamp : lent_good g ≡ true → (row : List Machine) (e : Event) (t : Told) → Found row k (machine_of k m xs cs)
+  pub own_last_stamp : lent_good g ≡ true → (row : List Machine) (e : Event) (t : Result Told Refusal) → Found row k (machine_of k m xs cs)
       → TellsAt t (step_at g row k e)
-      → t.number ≡ 5
+      → told_number t ≡ 5
       ↔ ((¬ NotAllowed e) × (¬ AboveLargest e) × (e.stamp.0 < (last_stamp (accepted_events g s (events_of k xs))).0))
 
 abbrev pub OfTheRowStatement : Type 1
 OfTheRowStatement =
     (g : Lent) (k : ℕ) (s : Settings) (m : Machine) (xs : List RowEvent) (cs : List Called)
-    → opened (Ready m) ≡ opening s → RowCalls g k m xs cs
+    → opened (Ok m) ≡ opening s → RowCalls g k m xs cs
     → OfTheRow g k s m xs cs
 
 -- what an answer tells apart from the machine
-abbrev pub told_of : Stepped → Told
-told_of r = record { number = r.number; items = r.items; sendings = r.sendings }
+abbrev pub told_of : Given → Result Told Refusal
+told_of (Ok r) = Ok (record { items = r.items; sendings = r.sendings })
+told_of (Err e) = Err e
 
 -- 8/12 of one keyboard's clock: d is added to every stamp of its own events, and the other keyboards, whose clocks are others, hold and
 -- get what they will.
 pub record ClockMovedAt (g : Lent) (d k j : ℕ) (s : Settings) (m : Machine) (xs ys : List RowEvent) (cs ds : List Called) : Type 0 where
   pub same_told : map told_of (answers_of j ys ds) ≡ map told_of (answers_of k xs cs)
   pub machine_moved : machine_of j m ys ds ≡ moved_state d (accepted_events g s (events_of k xs)) (machine_of k m xs cs)
-  pub same_asked : (now : Stamp) → Stays d now → (r o : AskedAt)
+  pub same_asked : (now : Stamp) → Stays d now → (r o : Distance)
       → AsksAt g k (machine_of k m xs cs) now r → AsksAt g j (machine_of j m ys ds) (later now d) o
-      → asked_at o ≡ asked_at r
+      → asked o ≡ asked r
 
 abbrev pub ClockMovedAtStatement : Type 0
 ClockMovedAtStatement =
     (g : Lent) (d k j : ℕ) (s : Settings) (m : Machine) (xs ys : List RowEvent) (cs ds : List Called)
-    → opened (Ready m) ≡ opening s → RowCalls g k m xs cs → RowCalls g j m ys ds
+    → opened (Ok m) ≡ opening s → RowCalls g k m xs cs → RowCalls g j m ys ds
     → events_of j ys ≡ moved_events d (events_of k xs) → AllStay d (events_of k xs)
     → ClockMovedAt g d k j s m xs ys cs ds
 

@@ -7,7 +7,7 @@ use Rattle.rules.specs.States.{at, fresh, opening, opened}
 use Rattle.rules.specs.MovedClock.{moved_events, AllStay}
 use Rattle.rules.specs.Examples.{usual, with_solo, が, to_wait}
 use Rattle.rules.specs.declared.Machine.{Machine}
-use Rattle.rules.specs.declared.Opened.TheVariants.{Ready}
+use Rattle.std.specs.Prelude.{Ok}
 use Rattle.rules.specs.declared.Item.{Item}
 use Rattle.rules.specs.declared.Event.{Event}
 use Rattle.row.specs.Row.{RowAnswer, step_at, asking_at}
@@ -88,7 +88,7 @@ pub record Grown : Type 0 where
 
 -- What isolation, demand 3 and the moved clock ask for, met.
 pub record Met : Type 0 where
-  pub is_opened : opened (Ready (fresh usual)) ≡ opening usual
+  pub is_opened : opened (Ok (fresh usual)) ≡ opening usual
   pub called : CalledWith 0 mixed
   pub called_apart : CalledWith 2 others
   pub same_events : events_of 0 mixed ≡ events_of 2 others

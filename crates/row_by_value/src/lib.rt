@@ -3,35 +3,25 @@
 #![tactic(auto)]
 
 ghost use Rattle.std.specs.Prelude.{◌≡◌};
-ghost use Rattle.pairs.specs.Lent.{lent};
+ghost use Rattle.pairs.specs.Lent.{lent_by};
 ghost use Rattle.row.specs.Row.{step_at};
 ghost use Rattle.row.specs.Views.{TellsAt};
 
-use pairs::Times;
+use pairs::Lent;
 use row::Told;
-use rules::{Event, Machine};
+use rules::{Event, Machine, Refusal};
 
-// What an event at such a row gives back, and the row after it.
+// What an event at such a row gives back, and the row after it: the row as it was where the event is refused.
 #[derive(Clone, Copy)]
 pub struct Among {
-    pub told: Told,
+    pub told: Result<Told, Refusal>,
     pub row: [Machine; 16],
 }
 
-pub fn step_among(
-    row: [Machine; 16],
-    list: &[u32],
-    times: Times,
-    board: usize,
-    event: Event,
-) -> Among
-    ensures { TellsAt result.told (step_at (lent list.now times) row board event)
-        × (result.row ≡ (step_at (lent list.now times) row board event).row) }
+pub fn step_among(mut row: [Machine; 16], given: Lent<'_>, board: usize, event: Event) -> Among
+    ensures { TellsAt result.told (step_at (lent_by given.entry) row board event)
+        × (result.row ≡ (step_at (lent_by given.entry) row board event).row) }
 {
-    let mut states = row;
-    let told = row::step_at(&mut states, list, times, board, event);
-    Among {
-        told: told,
-        row: states,
-    }
+    let told = row::step_at(&mut row, given, board, event);
+    Among { told, row }
 }

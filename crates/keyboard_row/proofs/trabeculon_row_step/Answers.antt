@@ -6,26 +6,26 @@ use Rattle.keyboard_row.proofs.trabeculon_row_step.Goals as goal
 
 pub offset_bounds-row-place : goal.offset_bounds-row-place
 offset_bounds-row-place c = record {
-  fits = offset_fits _ _ (is_in _ _ _ c.is_keyboard.ensures c.if-is_keyboard.true);
+  fits = offset_fits _ _ (is_in _ _ _ c.is_keyboard.ensures c.if-not-is_keyboard.false);
 }
 
-pub slice_copy_out-advance : goal.slice_copy_out-advance
-slice_copy_out-advance c = within _ _ (is_in _ _ _ c.is_keyboard.ensures c.if-is_keyboard.true)
+pub slice_copy_out-trabeculon_step : goal.slice_copy_out-trabeculon_step
+slice_copy_out-trabeculon_step c = within _ _ (is_in _ _ _ c.is_keyboard.ensures c.if-not-is_keyboard.false)
 
-pub offset_bounds-row-place-then-is_keyboard : goal.offset_bounds-row-place-then-is_keyboard
-offset_bounds-row-place-then-is_keyboard c = record {
-  fits = offset_fits _ _ (is_in _ _ _ c.is_keyboard.ensures c.if-is_keyboard.true);
+pub offset_bounds-row-place-2 : goal.offset_bounds-row-place-2
+offset_bounds-row-place-2 c = record {
+  fits = offset_fits _ _ (is_in _ _ _ c.is_keyboard.ensures c.if-not-is_keyboard.false);
 }
 
 pub bounds-row-place : goal.bounds-row-place
-bounds-row-place c = within _ _ (is_in _ _ _ c.is_keyboard.ensures c.if-is_keyboard.true)
-
-pub returns-then-is_keyboard : goal.returns-then-is_keyboard
-returns-then-is_keyboard c = told_here _ _ (lent_of c.args.pairs.now c.args.ts c.args.n)
-    (is_in _ _ _ c.is_keyboard.ensures c.if-is_keyboard.true)
-    (event_of c.args.kind c.args.key c.args.stamp) _ c.advance-done.ensures
+bounds-row-place c = within _ _ (is_in _ _ _ c.is_keyboard.ensures c.if-not-is_keyboard.false)
 
 pub returns : goal.returns
-returns c = told_nowhere _ _ (lent_of c.args.pairs.now c.args.ts c.args.n)
-    (is_out _ _ _ c.is_keyboard.ensures c.if-is_keyboard.false)
+returns c = rw c.from.ensures (told_here _ _ (lent_of c.args.pairs.now c.args.ts c.args.n)
+    (is_in _ _ _ c.is_keyboard.ensures c.if-not-is_keyboard.false)
+    (event_of c.args.kind c.args.key c.args.stamp) _ c.trabeculon_step-done.ensures)
+
+pub returns-then-not-is_keyboard : goal.returns-then-not-is_keyboard
+returns-then-not-is_keyboard c = told_nowhere _ _ (lent_of c.args.pairs.now c.args.ts c.args.n)
+    (is_out _ _ _ c.is_keyboard.ensures c.if-not-is_keyboard.true)
     (event_of c.args.kind c.args.key c.args.stamp) _ c.no_keyboard.ensures

@@ -1,6 +1,0 @@
--- `keyboard::refused` meets its contract.
-use mathlib.Core.Path.{refl}
-use Rattle.keyboard.proofs.refused.Goals as goal
-
-pub returns : goal.returns
-returns c = refl
