@@ -1,11 +1,9 @@
 pub mod Back
-pub mod Refusing
-pub mod Matter
+pub mod OfNoKind
 pub mod Forward
 pub mod Waits
-pub mod Deciding
+pub mod Finding
 pub mod Tally
 pub mod Sizes
-pub mod Finding
 pub mod Beginning
 pub mod Giving

@@ -1,99 +1,69 @@
 // Looking forward from a place for the first event that decides.
-ghost use Rattle.std.specs.Prelude.{◌≤◌, ◌||◌, ◌≡◌};
+ghost use Rattle.std.specs.Prelude.{◌||◌, ◌≡◌};
 ghost use Rattle.opinions.specs.Opinion as opinions;
-ghost use Rattle.second_opinion.specs.Places.{Listed, from_place};
-ghost use Rattle.second_opinion.specs.Views.{when, pressed, Looks};
+ghost use Rattle.second_opinion.specs.Views.{maybe, pressed, from, seen_list, StandsThere};
 
-use crate::places::heard_at;
-use rules::{Event, Stamp};
-use waits::{at_or_before, same_key};
+use crate::places::{Events, Heard};
+use rules::{Kind, Stamp};
 
-// A deadline, if there is one.
+// What one waits with: a letter, a thumb that is set, and a deadline.
 #[derive(Clone, Copy)]
-pub enum Due {
-    Never,
-    At(Stamp),
-}
-
-// The event of an earlier press, if there is one.
-#[derive(Clone, Copy)]
-pub enum EarlierPress {
-    None,
-    Press(Event),
-}
-
-// What is seen ahead: no event that decides; or one, at a place.
-#[derive(Clone, Copy)]
-pub enum Seen {
-    End,
-    At(usize, Event),
+pub struct Waiting {
+    pub letter: Option<Heard>,
+    pub thumb: Option<Heard>,
+    pub due: Option<Stamp>,
 }
 
 // Whether an event is at or past a deadline.
-pub fn is_late(due: Due, e: Event) -> bool
-    ensures { result ≡ opinions.late (when due) e }
+pub fn is_late(due: Option<Stamp>, e: Heard) -> bool
+    ensures { result ≡ opinions.late (maybe due) e.event }
 {
-    match due {
-        Due::Never => false,
-        Due::At(stamp) => at_or_before(stamp, e.stamp),
-    }
+    due.is_some_and(|due| due <= e.event.stamp)
 }
 
 // Whether an event has the key of an earlier press.
-fn is_of(press: EarlierPress, e: Event) -> bool
-    ensures { result ≡ opinions.of (pressed press) e }
+fn is_of(press: Option<Heard>, e: Heard) -> bool
+    ensures { result ≡ opinions.of (pressed press) e.event }
 {
-    match press {
-        EarlierPress::None => false,
-        EarlierPress::Press(earlier) => same_key(e.key, earlier.key),
-    }
+    press.is_some_and(|press| e.event.key == press.event.key)
 }
 
-// Whether an event matters to a letter and to a thumb that is set.
-fn matters(letter: EarlierPress, thumb: EarlierPress, e: Event) -> bool
-    ensures { result ≡ opinions.matters (pressed letter) (pressed thumb) e }
-{
-    let kind = e.kind;
-    match kind {
-        1 => true,
-        2 => is_of(letter, e),
-        3 => !is_of(thumb, e),
-        4 => is_of(thumb, e),
-        5 => true,
-        _ => false,
-    }
-}
-
-fn decides(letter: EarlierPress, thumb: EarlierPress, due: Due, e: Event) -> bool
-    ensures { result ≡ (opinions.late (when due) e || opinions.matters (pressed letter) (pressed thumb) e) }
-{
-    if is_late(due, e) {
-        return true;
-    }
-    matters(letter, thumb, e)
-}
-
-// The first of n events, from a place on, that is late or matters.
-pub fn ahead(
-    events: &[u8],
-    n: usize,
-    from: usize,
-    letter: EarlierPress,
-    thumb: EarlierPress,
-    due: Due,
-) -> Seen
-    requires listed { Listed events.now n }
-    requires from_le_n { from ≤ n }
-    ensures { Looks (from_place events.now n) n result
-        (opinions.ahead (pressed letter) (pressed thumb) (when due) (from_place events.now n from)) }
-{
-    let mut i = from;
-    while i < n {
-        let e = heard_at(events, i);
-        if decides(letter, thumb, due, e) {
-            return Seen::At(i, e);
+impl Waiting {
+    // Whether an event matters to the letter and to the thumb.
+    #[tactic(auto, using(crate::proofs::OfNoKind::matters_not), unfolding(opinions::specs::Opinion::matters))]
+    fn matters(self, e: Heard) -> bool
+        ensures { result ≡ opinions.matters (pressed self.letter) (pressed self.thumb) e.event }
+    {
+        match Kind::try_from(e.event.kind) {
+            Ok(Kind::CharacterDown | Kind::FunctionDown) => true,
+            Ok(Kind::CharacterUp) => is_of(self.letter, e),
+            Ok(Kind::ThumbDown) => !is_of(self.thumb, e),
+            Ok(Kind::ThumbUp) => is_of(self.thumb, e),
+            Ok(Kind::Tick) | Err(_) => false,
         }
-        i += 1;
     }
-    Seen::End
+
+    // Whether an event ends the waiting.
+    fn decides(self, e: Heard) -> bool
+        ensures { result ≡ (opinions.late (maybe self.due) e.event || opinions.matters (pressed self.letter) (pressed self.thumb) e.event) }
+    {
+        is_late(self.due, e) || self.matters(e)
+    }
+}
+
+impl Events<'_> {
+    // The first event that decides, from a place on, and its own place.
+    pub fn ahead(self, at: usize, waiting: Waiting) -> Option<(usize, Heard)>
+        ensures seen { seen_list (from self.entry) result
+            ≡ opinions.ahead (pressed waiting.letter) (pressed waiting.thumb) (maybe waiting.due) (from self.entry at) }
+        ensures there { StandsThere self.entry result }
+    {
+        for i in at..self.n {
+            let e = self.heard_at(i);
+            if waiting.decides(e) {
+                return Some((i, e));
+            }
+        }
+        None
+    }
 }

@@ -1,93 +1,76 @@
 // Whether an event is accepted behind the events before it.
-ghost use Rattle.std.specs.Prelude.{◌*◌, ◌≤◌, ◌≡◌, length};
-ghost use Rattle.choice.specs.Choice.{if◌then◌orelse◌};
+ghost use Rattle.std.specs.Prelude.{◌≡◌};
 ghost use Rattle.rules.specs.Numbers.{keys};
 ghost use Rattle.opinions.specs.Earlier as opinions;
-ghost use Rattle.second_opinion.specs.Places.{events_before};
+ghost use Rattle.second_opinion.specs.Views.{number_in, latest_first};
 
-use crate::places::{event_at, is_held};
-use rules::{Event, Key, Machine, Stamp};
-use waits::{before, is_key, lower_key};
+use crate::places::{Events, is};
+use rules::{Event, Key, Kind, Machine, Refusal, Stamp};
+use waits::is_key;
 
-// Kinds 1 and 2 have one of 31 keys, 3 and 4 key 0 or 1, 5 and 6 key 0.
+// Whether an event's kind has its key: letters have one of 31, thumbs 0 and 1, the function key and ticks 0.
+#[tactic(auto, using(crate::proofs::OfNoKind::not_allowed))]
 fn is_allowed(e: Event) -> bool
     ensures { result ≡ opinions.allowed e }
 {
-    let kind = e.kind;
-    match kind {
-        1 => is_key(e.key),
-        2 => is_key(e.key),
-        3 => lower_key(e.key, Key(2)),
-        4 => lower_key(e.key, Key(2)),
-        5 => lower_key(e.key, Key(1)),
-        6 => lower_key(e.key, Key(1)),
-        _ => false,
+    match Kind::try_from(e.kind) {
+        Ok(Kind::CharacterDown | Kind::CharacterUp) => is_key(e.key),
+        Ok(Kind::ThumbDown | Kind::ThumbUp) => e.key < Key(2),
+        Ok(Kind::FunctionDown | Kind::Tick) => e.key < Key(1),
+        Err(_) => false,
     }
 }
 
-// The last accepted stamp, 0 where none was.
-fn last_stamp(events: &[u8], i: usize) -> Stamp
-    requires { 13 * i ≤ length events.now }
-    ensures { result.0 ≡ opinions.last_stamp (events_before events.now i) }
-{
-    if i == 0 {
-        return Stamp(0);
-    }
-    let e = event_at(events, i - 1);
-    e.stamp
-}
-
-fn one_if(test: bool) -> u32
-    ensures value { result ≡ (if test then 1 orelse 0) }
-    ensures upper_bound { result ≤ 1 }
-{
-    if test { 1 } else { 0 }
-}
-
-// How many keys are held after the first i events.
-fn how_many_held(events: &[u8], i: usize) -> u32
-    requires { 13 * i ≤ length events.now }
-    ensures { result ≡ opinions.held_below keys (events_before events.now i) }
-{
-    let mut key: u8 = 0;
-    let mut n = 0;
-    while key < Machine::KEYS.0 {
-        n += one_if(is_held(events, i, Key(key)));
-        key += 1;
-    }
-    n
-}
-
-// Whether an event is a press of a new key while 6 are held.
-fn is_too_many(events: &[u8], i: usize, e: Event) -> bool
-    requires { 13 * i ≤ length events.now }
-    ensures { result ≡ opinions.too_many (events_before events.now i) e }
-{
-    if e.kind == 1 {
-        if is_held(events, i, e.key) {
-            return false;
+impl Events<'_> {
+    // The last accepted stamp, 0 where none was.
+    #[tactic(auto, using(crate::proofs::Back::no_stamp, crate::proofs::Back::stamp_by))]
+    fn last_stamp(self) -> Stamp
+        ensures { result.0 ≡ opinions.last_stamp (latest_first self.entry) }
+    {
+        if self.n == 0 {
+            return Stamp(0);
         }
-        return how_many_held(events, i) == Machine::MOST_HELD;
+        self.event_at(self.n - 1).stamp
     }
-    false
-}
 
-// The number of an event behind the first i, 0 if it is accepted.
-pub fn number_after(events: &[u8], i: usize, e: Event) -> u32
-    requires { 13 * i ≤ length events.now }
-    ensures { result ≡ opinions.number_after (events_before events.now i) e }
-{
-    if !is_allowed(e) {
-        return 3;
+    // How many keys are held after them.
+    #[tactic(auto, using(crate::proofs::Back::no_key, crate::proofs::Back::one_key_more))]
+    fn how_many_held(self) -> u32
+        ensures { result ≡ opinions.held_below keys (latest_first self.entry) }
+    {
+        let mut n = 0;
+        for key in 0..Machine::KEYS.0 {
+            n += self.is_held(Key(key)) as u32;
+        }
+        n
     }
-    if before(Machine::LARGEST, e.stamp) {
-        return 4;
+
+    // Whether an event is a press of a new key while 6 are held.
+    fn is_too_many(self, e: Event) -> bool
+        ensures { result ≡ opinions.too_many (latest_first self.entry) e }
+    {
+        is(Kind::CharacterDown, e)
+            && !self.is_held(e.key)
+            && self.how_many_held() == Machine::MOST_HELD
     }
-    if before(e.stamp, last_stamp(events, i)) {
-        return 5;
+
+    // Whether an event is accepted behind them.
+    #[tactic(auto, unfolding(opinions::specs::Earlier::number_after))]
+    pub fn accept(self, e: Event) -> Result<(), Refusal>
+        ensures { number_in result ≡ opinions.number_after (latest_first self.entry) e }
+    {
+        if !is_allowed(e) {
+            return Err(Refusal::KeyNotAllowed);
+        }
+        if Machine::LARGEST < e.stamp {
+            return Err(Refusal::AboveLargest);
+        }
+        if e.stamp < self.last_stamp() {
+            return Err(Refusal::BeforeLast);
+        }
+        if self.is_too_many(e) {
+            return Err(Refusal::TooManyHeld);
+        }
+        Ok(())
     }
-    if is_too_many(events, i, e) {
-        return 11;
-    }
-    0
 }

@@ -1,15 +1,13 @@
 // Decision after decision over the whole list: the words are counted, and then written.
-ghost use Rattle.std.specs.Prelude.{◌+◌, ◌≤◌, ◌≡◌, length};
-ghost use Rattle.rules.specs.ZeroDelay.{sign_unless_0, signs};
+ghost use Rattle.std.specs.Prelude.{◌+◌, ◌*◌, ◌≤◌, ◌≡◌, length};
 ghost use Rattle.filled.specs.Filled.{filled, Stored};
+ghost use Rattle.keylog.specs.Runs.{high_first};
 ghost use Rattle.rules.specs.Items.{listed};
-ghost use Rattle.second_opinion.specs.Views.{waiting, Ready};
-ghost use Rattle.second_opinion.specs.Telling.{packed, words_of, Counts};
+ghost use Rattle.second_opinion.specs.Telling.{packed, words_of, Counts, told_in, untold, Tells};
 
-use crate::decisions::{Decision, Set, decide};
-use crate::looking::EarlierPress;
-use layout::word;
-use rules::{Items, Settings};
+use crate::decisions::{Next, Set};
+use crate::due_stamps::Opened;
+use keylog::Words;
 
 // How many words there are, and how many characters wait.
 #[derive(Clone, Copy)]
@@ -18,117 +16,102 @@ pub struct Total {
     pub waiting: u32,
 }
 
-// How many words a word is: 0 stands for none.
-fn one(w: u16) -> usize
-    ensures value { result ≡ length (sign_unless_0 w) }
-    ensures upper_bound { result ≤ 1 }
-{
-    if w == 0 {
-        return 0;
-    }
-    1
+// What is told decision after decision: so many more at most, from a place on.
+#[derive(Clone, Copy)]
+pub struct Telling<'a> {
+    pub opened: Opened<'a>,
+    pub left: usize,
+    pub next: Next,
 }
 
-fn size(items: Items) -> usize
-    ensures value { result ≡ length (signs (listed items)) }
-    ensures upper_bound { result ≤ 2 }
-{
-    match items {
-        Items::None => 0,
-        Items::One(item) => one(word(item)),
-        Items::Two(item, other) => one(word(item)) + one(word(other)),
-    }
-}
-
-fn how_many(letter: EarlierPress) -> u32
-    ensures { result ≡ length (waiting letter) }
-{
-    match letter {
-        EarlierPress::None => 0,
-        EarlierPress::Press(_) => 1,
-    }
-}
-
-// Counts the words of n events. Two decisions for each event, and one, are enough.
-pub fn count(s: Settings, events: &[u8], n: usize) -> Total
-    requires { Ready s events.now n }
-    ensures { Counts s events.now n result }
-{
-    let mut fuel = 2 * n + 1;
-    let mut set = Set::Free;
-    let mut at = 0;
-    let mut words = 0;
-    while 0 < fuel {
-        fuel -= 1;
-        match decide(s, events, n, set, at) {
-            Decision::Over(items, letter) => {
-                return Total {
-                    words: words + size(items),
-                    waiting: how_many(letter),
-                };
-            }
-            Decision::On(items, next, i) => {
-                words += size(items);
-                set = next;
-                at = i;
-            }
+impl<'a> Telling<'a> {
+    // Two decisions for each event, and one, are enough.
+    fn all(opened: Opened<'a>) -> Telling<'a>
+        ensures told { untold result ≡ told_in opened.entry }
+        ensures left { result.left ≡ 2 * opened.entry.events.n + 1 }
+    {
+        Telling {
+            opened,
+            left: 2 * opened.events.n + 1,
+            next: Next::On(Set::Free, 0),
         }
+    }
+
+    // The words of the next decision, if there is one.
+    fn next_words(&mut self) -> Option<Words>
+        ensures { Tells self.old result self.new }
+    {
+        let Next::On(set, at) = self.next else {
+            return None;
+        };
+        if self.left == 0 {
+            return None;
+        }
+        self.left -= 1;
+        let decision = self.opened.decide(set, at);
+        self.next = decision.next;
+        Some(keylog::words_of(decision.items))
+    }
+}
+
+fn how_many(words: Words) -> usize
+    ensures { result ≡ length (listed words) }
+{
+    match words {
+        Words::None => 0,
+        Words::One(_) => 1,
+        Words::Two(_, _) => 2,
+    }
+}
+
+// A word at a place: two bytes, the high one first. Answers the place behind it.
+fn put_word(out: &mut [u8], at: usize, word: u16) -> usize
+    requires { at + 2 ≤ length out.old }
+    ensures { Stored at (high_first word) out.old result out.new }
+{
+    let behind = at + 2;
+    out[at..behind].copy_from_slice(&word.to_be_bytes());
+    behind
+}
+
+#[tactic(auto, using(crate::proofs::Sizes::none_stored, filled::proofs::Filling::stored_both), unfolding(keylog::specs::Runs::encoded))]
+fn put_words(out: &mut [u8], at: usize, words: Words) -> usize
+    requires { at + length (packed (listed words)) ≤ length out.old }
+    ensures { Stored at (packed (listed words)) out.old result out.new }
+{
+    match words {
+        Words::None => at,
+        Words::One(word) => put_word(out, at, word),
+        Words::Two(word, other) => {
+            let behind = put_word(out, at, word);
+            put_word(out, behind, other)
+        }
+    }
+}
+
+// Counts the words of a log.
+pub fn count(opened: Opened<'_>) -> Total
+    ensures { Counts opened.entry result }
+{
+    let mut telling = Telling::all(opened);
+    let mut words = 0;
+    while let Some(more) = telling.next_words() {
+        words += how_many(more);
     }
     Total {
-        words: words,
-        waiting: 0,
+        words,
+        waiting: matches!(telling.next, Next::Over(Some(_))) as u32,
     }
 }
 
-// A word at a place, 0 standing for none: two bytes, the high one first. Answers the place behind it.
-fn put_word(out: &mut [u8], at: usize, w: u16) -> usize
-    requires { at + length (packed (sign_unless_0 w)) ≤ length out.old }
-    ensures { Stored at (packed (sign_unless_0 w)) out.old result out.new }
+// Writes them at the front of a run that has room for them.
+pub fn write(opened: Opened<'_>, out: &mut [u8])
+    requires { length (packed (words_of opened)) ≤ length out.old }
+    ensures { out.new ≡ filled (packed (words_of opened.entry)) out.old }
 {
-    if w == 0 {
-        return at;
-    }
-    out[at] = (w / 256) as u8;
-    out[at + 1] = (w % 256) as u8;
-    at + 2
-}
-
-fn put_items(out: &mut [u8], at: usize, items: Items) -> usize
-    requires { at + length (packed (signs (listed items))) ≤ length out.old }
-    ensures { Stored at (packed (signs (listed items))) out.old result out.new }
-{
-    match items {
-        Items::None => at,
-        Items::One(item) => put_word(out, at, word(item)),
-        Items::Two(item, other) => {
-            let behind = put_word(out, at, word(item));
-            put_word(out, behind, word(other))
-        }
-    }
-}
-
-// Writes the words of n events at the front of a run that has room for them.
-pub fn write(s: Settings, events: &[u8], n: usize, out: &mut [u8])
-    requires ready { Ready s events.now n }
-    requires n_in_bounds { length (packed (words_of s events.now n)) ≤ length out.old }
-    ensures { out.new ≡ filled (packed (words_of s events.now n)) out.old }
-{
-    let mut fuel = 2 * n + 1;
-    let mut set = Set::Free;
-    let mut at = 0;
+    let mut telling = Telling::all(opened);
     let mut behind = 0;
-    while 0 < fuel {
-        fuel -= 1;
-        match decide(s, events, n, set, at) {
-            Decision::Over(items, _) => {
-                put_items(out, behind, items);
-                return;
-            }
-            Decision::On(items, next, i) => {
-                behind = put_items(out, behind, items);
-                set = next;
-                at = i;
-            }
-        }
+    while let Some(words) = telling.next_words() {
+        behind = put_words(out, behind, words);
     }
 }

@@ -1,8 +1,0 @@
--- `second_opinion::decisions::in_time` meets its contract.
-use Rattle.second_opinion.proofs.decisions.in_time.Goals as goal
-
-pub returns-then-is_late : goal.returns-then-is_late
-returns-then-is_late c = rw (← c.is_late.ensures, c.if-is_late.true)
-
-pub returns : goal.returns
-returns c = rw (← c.is_late.ensures, c.if-is_late.false)
