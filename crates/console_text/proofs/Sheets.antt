@@ -24,7 +24,9 @@ use Rattle.status_line.specs.Decimal.{decimal}
 use Rattle.status_line.specs.Status.{line_end, status}
 use Rattle.console_text.specs.Sheet.{label, first_line, second_line, board_lines, lines_below, refusal_line, console_lines}
 use Rattle.console_text.specs.Shows.{longest_log, word_room, text_room, beside, line, size, told_by, fits, shown, Shows}
-use Rattle.console_text.specs.declared.Shown.TheVariants.{Unread, Text}
+use Rattle.std.specs.Prelude.{None, Some}
+use Rattle.rules.specs.Refusal.{number_of as refusal_number}
+use Rattle.rules.specs.declared.Refusal.{Refusal}
 use Rattle.console_text.proofs.Picking.{stored_none, length_beside}
 use Rattle.console_text.proofs.Totals.{total, total_few}
 
@@ -95,9 +97,9 @@ module _ (c : Console) (boards words : List ℕ) (run : List ℕ) where
 
 -- The last line.
 
-pub no_refusal : (number offset at : ℕ) (run : List ℕ) → number ≡ 0 → Stored at (refusal_line number offset) run at run
+pub no_refusal : (offset at : ℕ) (run : List ℕ) → Stored at (refusal_line 0 offset) run at run
 unfolding refusal_line
-no_refusal number offset at run z = rw (eq-eqb number 0 z) (stored_none at run)
+no_refusal offset at run = stored_none at run
 
 pub refusal_stored : (number offset at : ℕ) (run : List ℕ) (n1 : ℕ) (m1 : List ℕ) (n2 : ℕ) (m2 : List ℕ)
     → (number ≡ 0 → ⊥) → at ≤ length run → Stored at (status number 0 offset) run n1 m1 → Stored n1 line_end m1 n2 m2
@@ -106,16 +108,16 @@ unfolding refusal_line
 refusal_stored number offset at run n1 m1 n2 m2 nz h s t =
     rw (ne_eqb number 0 nz) (stored_both at (status number 0 offset) line_end run n1 m1 n2 m2 h s t)
 
-number_told : (n : ℕ) → number_of (told n) ≡ n
-number_told n = either (eqb n 0) (λ e. rw e (sym (eqb-true n 0 e))) (λ e. rw e)
+pub not_0 : (e : Refusal) → refusal_number e ≡ 0 → ⊥
+not_0 e = grind arith
 
 pub console_stored : (c : Console) (boards words run : List ℕ) (n1 : ℕ) (m1 : List ℕ) (n2 : ℕ) (m2 : List ℕ)
-    → Stored 0 (lines_below (told_by c boards words) 16) run n1 m1 → Stored n1 (refusal_line c.number c.offset) m1 n2 m2
+    → Stored 0 (lines_below (told_by c boards words) 16) run n1 m1 → Stored n1 (refusal_line (number_of (told c.refusal)) c.offset) m1 n2 m2
     → Stored 0 (console_lines (told_by c boards words)) run n2 m2
 unfolding console_lines
 console_stored c boards words run n1 m1 n2 m2 s t =
-    rw (number_told c.number)
-    (stored_both 0 (lines_below (told_by c boards words) 16) (refusal_line c.number c.offset) run n1 m1 n2 m2 (omega arith) s t)
+    stored_both 0 (lines_below (told_by c boards words) 16) (refusal_line (number_of (told c.refusal)) c.offset) run n1 m1 n2 m2
+    (omega arith) s t
 
 -- The log.
 
@@ -179,7 +181,7 @@ module _ (l boards words : List ℕ) (c : Console) (boards-after words-after : L
   lines_are =
       rw (boards_front, words_front)
       (same_lines (told_by c (boards_of ws) (words_of ws)) (read (room_of boards words) l) h.row_is h.seats_are (beside_own ws)
-      (number_told c.number ∙ h.number_is) h.offset_is
+      (ap number_of h.refusal_is) h.offset_is
       ∙ ap (λ (n : ℕ). console_lines (read n l)) room_is)
 
   pub told_lines : ToldLines l c boards-after words-after
@@ -188,18 +190,18 @@ module _ (l boards words : List ℕ) (c : Console) (boards-after words-after : L
 
 -- The contract of `show`.
 
-pub too_long : (l run : List ℕ) → longest_log < length l → Shows l run Unread run
+pub too_long : (l run : List ℕ) → longest_log < length l → Shows l run None run
 too_long l run h =
     let e : leb (length l) longest_log ≡ false = lt-leb (length l) longest_log h in
     record { answered = rw e; written = rw e }
 
-pub no_room : (l run : List ℕ) → length run < text_room → Shows l run Unread run
+pub no_room : (l run : List ℕ) → length run < text_room → Shows l run None run
 no_room l run h =
     let e : fits l run ≡ false = rw (lt-leb text_room (length run) h) (and-false (leb (length l) longest_log)) in
     record { answered = rw e; written = rw e }
 
 pub is_shown : (l run : List ℕ) (n : ℕ) (after : List ℕ)
-    → length l ≤ longest_log → text_room ≤ length run → Stored 0 (shown l) run n after → Shows l run (Text n) after
+    → length l ≤ longest_log → text_room ≤ length run → Stored 0 (shown l) run n after → Shows l run (Some n) after
 is_shown l run n after h k s =
     let e : fits l run ≡ true = rw (le-leb (length l) longest_log h, le-leb text_room (length run) k) in
     record { answered = rw (e, s.behind, zero-add); written = rw (e, s.stored, zero-add) }

@@ -1,5 +1,5 @@
 -- What the functions of this crate do.
-use Rattle.std.specs.Prelude.{ℕ, ◌≤◌, Bool, ◌&&◌, List, [], ◌∷◌, ◌≡◌, leb, length}
+use Rattle.std.specs.Prelude.{ℕ, ◌≤◌, Bool, ◌&&◌, List, [], ◌∷◌, ◌≡◌, leb, length, Option, None, Some}
 use Rattle.choice.specs.Choice.{if◌then◌orelse◌}
 use Rattle.rules.specs.Pairs.{no_pairs}
 use Rattle.filled.specs.Filled.{filled}
@@ -9,8 +9,6 @@ use Rattle.console_log.specs.ConsoleLog.{Word, line_in, read}
 use Rattle.console_log.specs.Views.{console_of}
 use Rattle.console_log.specs.declared.Console.{Console}
 use Rattle.console_text.specs.Sheet.{console_lines}
-use Rattle.console_text.specs.declared.Shown.{Shown}
-use Rattle.console_text.specs.declared.Shown.TheVariants.{Unread, Text}
 
 -- the program's buffer, in bytes
 abbrev pub longest_log : ℕ
@@ -53,11 +51,11 @@ abbrev pub shown : List ℕ → List ℕ
 shown l = console_lines (read word_room l)
 
 -- The text stands at the run's front, and the rest is as it was; where nothing was read, the run is as it was.
-pub record Shows (l run : List ℕ) (answer : Shown) (after : List ℕ) : Type 0 where
-  pub answered : answer ≡ if fits l run then Text (length (shown l)) orelse Unread
+pub record Shows (l run : List ℕ) (answer : Option ℕ) (after : List ℕ) : Type 0 where
+  pub answered : answer ≡ if fits l run then Some (length (shown l)) orelse None
   pub written : after ≡ if fits l run then filled (shown l) run orelse run
 
 -- the text that is answered lies within a length
-abbrev pub Within : ℕ → Shown → Type 0
-Within n Unread = Unit {0}
-Within n (Text bytes) = bytes ≤ n
+abbrev pub Within : ℕ → Option ℕ → Type 0
+Within n None = Unit {0}
+Within n (Some bytes) = bytes ≤ n

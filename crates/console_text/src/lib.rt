@@ -1,17 +1,17 @@
 // What the program `console` prints of a console's log, as text in a lent run. specs/Sheet.antt says what it is.
 #![tactic(auto)]
 
-ghost use Rattle.std.specs.Prelude.{◌+◌, ◌*◌, ◌≤◌, ◌<◌, ◌≡◌, length, get_or};
-ghost use Rattle.rules.specs.Sequences as sequences;
+ghost use Rattle.std.specs.Prelude.{◌+◌, ◌*◌, ◌≤◌, ◌<◌, ◌≡◌, length};
 ghost use Rattle.filled.specs.Filled.{Stored};
 ghost use Rattle.text.specs.Text as texts;
-ghost use Rattle.console_log.specs.ConsoleLog.{nobody, seat_at};
-ghost use Rattle.console_log.specs.declared.Stage.TheVariants.{Closed};
+ghost use Rattle.keylog.specs.Reader.{number_of};
+ghost use Rattle.console_log.specs.Views.{told};
 ghost use Rattle.console_text.specs.Sheet.{label, first_line, second_line, two_lines, lines_of, board_lines, lines_below};
 ghost use Rattle.console_text.specs.Sheet.{refusal_line, console_lines};
 ghost use Rattle.console_text.specs.Shows.{longest_log, word_room, text_room, one_text, line, size, told_by, shown, Shows, Within};
 
 use console_log::{Console, KEYBOARDS, Stage};
+use rules::Refusal;
 
 // The longest log that is read.
 pub const LONGEST_LOG: usize = 1048576;
@@ -20,32 +20,11 @@ pub const TEXT_ROOM: usize = 371707;
 // A run of this length has room for its words.
 const WORD_ROOM: usize = 123362;
 
-// What a log gave.
-#[derive(Clone, Copy)]
-pub enum Shown {
-    // It is longer than `LONGEST_LOG`, or the run is shorter than `TEXT_ROOM`: nothing was read, and nothing was written.
-    Unread,
-    // So many bytes of text were written.
-    Text(usize),
-}
-
-// Buffers as they are given: a parameter's length is known by its type, that of a new array would take too long to compute.
-fn with_words(words: [u16; WORD_ROOM]) -> [u16; WORD_ROOM]
+// A buffer of zeros: a result's length is known by its type, that of a new array would take too long to compute.
+fn buffer<T: Copy>(zero: T) -> [T; WORD_ROOM]
     ensures { word_room ≡ length result }
 {
-    words
-}
-
-fn with_boards(boards: [u8; WORD_ROOM]) -> [u8; WORD_ROOM]
-    ensures { word_room ≡ length result }
-{
-    boards
-}
-
-fn wide(x: u8) -> usize
-    ensures { result ≡ x }
-{
-    x as usize
+    [zero; WORD_ROOM]
 }
 
 // `K: ` at a place where it fits. So the others: each answers the place behind what it put.
@@ -77,10 +56,8 @@ fn put_words(out: &mut [u8], at: usize, board: usize, boards: &[u8], words: &[u1
         out.old result out.new }
 {
     let mut next = at;
-    let mut i = 0;
-    while i < words.len() {
-        next = put_word(out, next, board, wide(boards[i]), words[i]);
-        i += 1;
+    for i in 0..words.len() {
+        next = put_word(out, next, board, boards[i] as usize, words[i]);
     }
     next
 }
@@ -159,26 +136,6 @@ fn put_stage(
     }
 }
 
-// Where a keyboard's log stands, and how many characters wait there.
-fn stage_at(c: Console, board: usize) -> Stage
-    requires { board < 16 }
-    ensures { result ≡ (get_or c.seats board (seat_at Closed)).stage }
-{
-    let seats = c.seats;
-    let seat = seats[board];
-    seat.stage
-}
-
-fn waiting_at(c: Console, board: usize) -> u32
-    requires { board < 16 }
-    ensures { result ≡ length (sequences.waiting (get_or c.row board nobody).resting) }
-{
-    let row = c.row;
-    let machine = row[board];
-    let resting = machine.resting;
-    keylog::waiting(resting)
-}
-
 // What is printed of one keyboard.
 fn put_board(
     out: &mut [u8],
@@ -195,9 +152,8 @@ fn put_board(
         out.old result out.new }
     ensures upper_bound { result ≤ at + 98 + size board boards.now words.now }
 {
-    let stage = stage_at(c, board);
-    let waiting = waiting_at(c, board);
-    put_stage(out, at, board, boards, words, waiting, stage)
+    let waiting = keylog::waiting(c.row[board].resting);
+    put_stage(out, at, board, boards, words, waiting, c.seats[board].stage)
 }
 
 // What is printed of the keyboards, in order.
@@ -209,24 +165,22 @@ fn put_boards(out: &mut [u8], c: Console, boards: &[u8], words: &[u16]) -> usize
     ensures upper_bound { result ≤ 1568 + 3 * length words.now }
 {
     let mut at = 0;
-    let mut board = 0;
-    while board < KEYBOARDS {
+    for board in 0..KEYBOARDS {
         at = put_board(out, at, board, c, boards, words);
-        board += 1;
     }
     at
 }
 
 // `refused N at OFFSET` of the whole log, if it was.
-fn put_refusal(out: &mut [u8], at: usize, number: u32, offset: usize) -> usize
+fn put_refusal(out: &mut [u8], at: usize, refusal: Option<Refusal>, offset: usize) -> usize
     requires { at + 53 ≤ length out.old }
-    ensures stored { Stored at (refusal_line number offset) out.old result out.new }
+    ensures stored { Stored at (refusal_line (number_of (told refusal)) offset) out.old result out.new }
     ensures upper_bound { result ≤ at + 53 }
 {
-    if number == 0 {
+    let Some(refusal) = refusal else {
         return at;
-    }
-    let first = status_line::put_status(out, at, number as u64, 0, offset as u64);
+    };
+    let first = status_line::put_status(out, at, refusal.number() as u64, 0, offset as u64);
     status_line::put_bytes(out, first, b"\n")
 }
 
@@ -238,7 +192,7 @@ fn put_console(out: &mut [u8], c: Console, boards: &[u8], words: &[u16]) -> usiz
     ensures upper_bound { result ≤ 1621 + 3 * length words.now }
 {
     let first = put_boards(out, c, boards, words);
-    put_refusal(out, first, c.number, c.offset)
+    put_refusal(out, first, c.refusal, c.offset)
 }
 
 // A log read where there is room for its text.
@@ -247,23 +201,21 @@ fn put_log(log: &[u8], out: &mut [u8]) -> usize
     ensures stored { Stored 0 (shown log.now) out.old result out.new }
     ensures upper_bound { result ≤ text_room }
 {
-    let mut boards = with_boards([0; WORD_ROOM]);
-    let mut words = with_words([0; WORD_ROOM]);
+    let mut boards: [u8; WORD_ROOM] = buffer(0);
+    let mut words: [u16; WORD_ROOM] = buffer(0);
     let c = console_log::read_console(log, &mut boards, &mut words);
     let n = c.words;
     put_console(out, c, &boards[..n], &words[..n])
 }
 
-// A console's log: the text that the program prints, at the front of a run of at least `TEXT_ROOM` bytes.
-pub fn show(log: &[u8], out: &mut [u8]) -> Shown
+// A console's log: how many bytes the text that the program prints has, at the front of a run of at least `TEXT_ROOM` bytes. None where the
+// log is longer than `LONGEST_LOG`, or the run is shorter: nothing was read, and nothing was written.
+pub fn show(log: &[u8], out: &mut [u8]) -> Option<usize>
     ensures shows { Shows log.now out.old result out.new }
     ensures within { Within (length out.old) result }
 {
-    if LONGEST_LOG < log.len() {
-        return Shown::Unread;
+    if LONGEST_LOG < log.len() || out.len() < TEXT_ROOM {
+        return None;
     }
-    if out.len() < TEXT_ROOM {
-        return Shown::Unread;
-    }
-    Shown::Text(put_log(log, out))
+    Some(put_log(log, out))
 }

@@ -10,8 +10,8 @@ use lib.Dec.{leb}
 use lib.ListN.{length, drop, get_or, drop_of_length-le}
 use lib.Seq.{drop-cons}
 use Rattle.decimals.specs.Decimals.{is_digit, extended, and_then, extended_by, parsed}
-use Rattle.decimals.specs.declared.Number.{Number}
-use Rattle.decimals.specs.declared.Number.TheVariants.{Value, Not}
+use Rattle.std.proofs.Common.{Option, Some, None}
+use Rattle.decimals.specs.Decimals.{Value, Not, number_of}
 
 both_first : (p q : Bool) → p && q ≡ true → p ≡ true
 both_first true q e = refl
@@ -42,13 +42,16 @@ module _ (bytes : List ℕ) (n i : ℕ) (so_far : Read bytes n i) where
   unfolding extended_by
   ended h = sym (rw (drop_of_length-le bytes h) at so_far.left)
 
-  module _ (more : i < length bytes) (r : Number) (extends : r ≡ extended n (get_or bytes i 0)) where
-    one_more : parsed bytes ≡ and_then r (λ next. extended_by next (drop (i + 1) bytes))
+  module _ (more : i < length bytes) (r : Option ℕ) (extends : number_of r ≡ extended n (get_or bytes i 0)) where
+    one_more : parsed bytes ≡ and_then (number_of r) (λ next. extended_by next (drop (i + 1) bytes))
     unfolding extended_by
     one_more = so_far.left ∙ rw (extends, add-one i, drop-cons bytes i 0 more)
 
-    pub stops : r ≡ Not → Not ≡ parsed bytes
+    pub stops : r ≡ None → Not ≡ parsed bytes
     stops e = sym (rw e at one_more)
 
-    pub goes_on : (next : ℕ) → r ≡ Value next → Read bytes next (i + 1)
+    pub goes_on : (next : ℕ) → r ≡ Some next → Read bytes next (i + 1)
     goes_on next e = record { inside = omega arith; left = rw e at one_more }
+
+-- the steps of reading
+pub ruleset reading = (none_read, begun, stops, goes_on, ended)

@@ -4,8 +4,7 @@ use mathlib.Core.Path.{◌≡◌, refl}
 use Prim.Native.String.{String}
 use Rattle.text.specs.Text.{ascii}
 use Rattle.decimals.specs.Decimals.{is_digit, extended, extended_by, parsed}
-use Rattle.decimals.specs.declared.Number.{Number}
-use Rattle.decimals.specs.declared.Number.TheVariants.{Value, Not}
+use Rattle.decimals.specs.Decimals.{Number, Value, Not}
 
 record Example : Type 0 where
   written : String

@@ -1,8 +1,16 @@
 -- A decimal number from 0 to 65,535, read from ASCII text: at least one digit, and only digits.
-use Rattle.std.specs.Prelude.{ℕ, ◌+◌, ◌*◌, ◌-◌, Bool, ◌&&◌, List, [], ◌∷◌, leb}
+use Rattle.std.specs.Prelude.{ℕ, ◌+◌, ◌*◌, ◌-◌, Bool, ◌&&◌, List, [], ◌∷◌, leb, Option, Some, None}
 use Rattle.choice.specs.Choice.{if◌then◌orelse◌}
-use Rattle.decimals.specs.declared.Number.{Number}
-use Rattle.decimals.specs.declared.Number.TheVariants.{Value, Not}
+
+-- a number, or none
+pub data Number : Type 0 where
+  Value : ℕ → Number
+  Not : Number
+
+-- what the answers of the code say
+abbrev pub number_of : Option ℕ → Number
+number_of None = Not
+number_of (Some n) = Value n
 
 -- from '0' to '9'
 unfoldable pub is_digit : ℕ → Bool

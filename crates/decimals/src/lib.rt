@@ -2,54 +2,37 @@
 #![tactic(auto)]
 
 ghost use Rattle.std.specs.Prelude.{◌≡◌};
-ghost use Rattle.decimals.specs.Decimals.{is_digit, extended, parsed};
+ghost use Rattle.decimals.specs.Decimals.{is_digit, extended, parsed, number_of};
 
-// A number from 0 to 65,535, or what is none.
-#[derive(Clone, Copy)]
-pub enum Number {
-    Value(u16),
-    Not,
-}
-
-const LARGEST: u32 = 65535;
-
+#[tactic(auto, unfolding(crate::specs::Decimals::is_digit))]
 pub fn digit(b: u8) -> bool
     ensures { result ≡ is_digit b }
 {
-    if b'0' <= b {
-        return b <= b'9';
-    }
-    false
+    b.is_ascii_digit()
 }
 
 // A number with one more byte behind its digits.
-fn extend(n: u16, b: u8) -> Number
-    ensures { result ≡ extended n b }
+#[tactic(auto, unfolding(crate::specs::Decimals::extended, crate::specs::Decimals::is_digit))]
+fn extend(n: u16, b: u8) -> Option<u16>
+    ensures { number_of result ≡ extended n b }
 {
-    if digit(b) {
-        let next = n as u32 * 10 + (b - b'0') as u32;
-        if next <= LARGEST {
-            return Number::Value(next as u16);
-        }
+    if !digit(b) {
+        return None;
     }
-    Number::Not
+    n.checked_mul(10)?.checked_add((b - b'0') as u16)
 }
 
-// A decimal number: at least one digit, and only digits. Zeros may stand in front.
-pub fn parse(bytes: &[u8]) -> Number
-    ensures { result ≡ parsed bytes.now }
+// A decimal number from 0 to 65,535: at least one digit, and only digits. Zeros may stand in front.
+#[tactic(auto, using(crate::proofs::Digits::reading))]
+pub fn parse(bytes: &[u8]) -> Option<u16>
+    ensures { number_of result ≡ parsed bytes.now }
 {
-    if bytes.len() == 0 {
-        return Number::Not;
+    if bytes.is_empty() {
+        return None;
     }
     let mut n = 0;
-    let mut i = 0;
-    while i < bytes.len() {
-        match extend(n, bytes[i]) {
-            Number::Value(next) => n = next,
-            Number::Not => return Number::Not,
-        }
-        i += 1;
+    for b in bytes {
+        n = extend(n, *b)?;
     }
-    Number::Value(n)
+    Some(n)
 }

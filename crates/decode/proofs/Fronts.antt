@@ -9,8 +9,8 @@ use lib.ListN.{length}
 use Rattle.choice.specs.Choice.{if◌then◌orelse◌}
 use Rattle.choice.proofs.Choices.{both_ways}
 use Rattle.decode.specs.Sequences.{continues, joined, within, surrogate, two, three, four, byte, front}
-use Rattle.decode.specs.declared.sequence.Sequence.{Sequence}
-use Rattle.decode.specs.declared.sequence.Sequence.TheVariants.{Damaged, Word}
+use Rattle.decode.specs.Sequences.{Sequence}
+use Rattle.decode.specs.Sequences.{Damaged, Word}
 
 first_of : (p q : Bool) → p && q ≡ true → p ≡ true
 first_of true q e = refl

@@ -1,4 +1,3 @@
-pub mod Forms
 pub mod Fronts
 pub mod Passing
 pub mod RoundTrip

@@ -14,7 +14,7 @@ use Rattle.text.specs.Text.{text}
 use Rattle.text.proofs.Signs.{sign_other}
 use Rattle.decode.specs.Sequences.{continues, joined, within, surrogate, two, three, front}
 use Rattle.decode.specs.Decoding.{words, followed_by, decoded_from, decoded}
-use Rattle.decode.specs.declared.sequence.Sequence.TheVariants.{Word}
+use Rattle.decode.specs.Sequences.{Word}
 use Rattle.decode.proofs.Passing.{next_word, at_end}
 
 -- a code point that a word holds and that is no surrogate

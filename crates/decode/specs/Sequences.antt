@@ -8,10 +8,19 @@
 -- A sequence is damaged where its first byte begins no form, where a byte 10xxxxxx is missing, and where its code point is
 -- outside of its form's range or a surrogate, U+D800 to U+DFFF. So a form that is longer than needed is damaged, and what begins
 -- with one of the bytes 80 to C1 or F5 to FF.
-use Rattle.std.specs.Prelude.{ℕ, ◌+◌, ◌*◌, ◌/◌, ◌%◌, Bool, not, ◌&&◌, List, eqb, leb, get_or}
+use Rattle.std.specs.Prelude.{ℕ, ◌+◌, ◌*◌, ◌/◌, ◌%◌, Bool, not, ◌&&◌, List, eqb, leb, get_or, Option, Some, None}
 use Rattle.choice.specs.Choice.{if◌then◌orelse◌}
-use Rattle.decode.specs.declared.sequence.Sequence.{Sequence}
-use Rattle.decode.specs.declared.sequence.Sequence.TheVariants.{Damaged, Word}
+use Rattle.decode.specs.declared.sequence.Sequence as code
+
+-- what stands at the front of some bytes: damage, or a word and how many bytes follow the first
+pub data Sequence : Type 0 where
+  Damaged : Sequence
+  Word : ℕ → ℕ → Sequence
+
+-- what the answers of the code say
+abbrev pub sequence_of : Option code.Sequence → Sequence
+sequence_of None = Damaged
+sequence_of (Some s) = Word s.word s.more
 
 -- 10xxxxxx
 unfoldable pub continues : ℕ → Bool

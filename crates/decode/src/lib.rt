@@ -2,41 +2,32 @@
 #![tactic(auto)]
 
 mod sequence;
+mod words;
 
 ghost use Rattle.std.specs.Prelude.{◌≡◌, length};
-ghost use Rattle.decode.specs.Decoding.{decoded, answer_of, run_after, Fits, Decodes};
+ghost use Rattle.decode.specs.Decoding.{decoded, count_of, run_after, Fits, Decodes};
 
-use sequence::{Sequence, front};
+use words::Words;
 
+// Why bytes give no words. Nothing was written then.
 #[derive(Clone, Copy)]
-pub enum Decoded {
-    // Every word was written: so many.
-    Words(usize),
-    // The sequence at this position is damaged, and nothing was written.
+pub enum DecodeError {
+    // The sequence at this position is damaged.
     Damaged(usize),
-    // The words do not fit, and nothing was written.
-    Full,
+    // The words do not fit.
+    NoRoom,
 }
 
-// What decoding into a run with this much room answers.
-fn measure(bytes: &[u8], room: usize) -> Decoded
-    ensures { result ≡ answer_of room (decoded bytes.now) }
+// How many words bytes give.
+fn measure(bytes: &[u8]) -> Result<usize, DecodeError>
+    ensures { result ≡ count_of (decoded bytes.now) }
 {
     let mut n = 0;
-    let mut at = 0;
-    while at < bytes.len() {
-        match front(&bytes[at..]) {
-            Sequence::Damaged => return Decoded::Damaged(at),
-            Sequence::Word(_, more) => {
-                n += 1;
-                at += more + 1;
-            }
-        }
+    for word in (Words { bytes, at: 0 }) {
+        word?;
+        n += 1;
     }
-    if room < n {
-        return Decoded::Full;
-    }
-    Decoded::Words(n)
+    Ok(n)
 }
 
 // The words of bytes that have no damage, in a run that they fit.
@@ -44,30 +35,21 @@ fn fill(bytes: &[u8], out: &mut [u16])
     requires { Fits (length out.old) (decoded bytes.now) }
     ensures { out.new ≡ run_after out.old (decoded bytes.now) }
 {
-    let mut n = 0;
-    let mut at = 0;
-    while at < bytes.len() {
-        match front(&bytes[at..]) {
-            Sequence::Damaged => return,
-            Sequence::Word(w, more) => {
-                out[n] = w;
-                n += 1;
-                at += more + 1;
-            }
+    for (n, word) in (Words { bytes, at: 0 }).enumerate() {
+        if let Ok(word) = word {
+            out[n] = word;
         }
     }
 }
 
-// Bytes read as UTF-8 into the front of a run, or nothing where they are damaged or do not fit.
-pub fn decode(bytes: &[u8], out: &mut [u16]) -> Decoded
+// Bytes read as UTF-8 into the front of a run: how many words that gave, or why it gave none.
+pub fn decode(bytes: &[u8], out: &mut [u16]) -> Result<usize, DecodeError>
     ensures { Decodes bytes.now out.old result out.new }
 {
-    match measure(bytes, out.len()) {
-        Decoded::Words(n) => {
-            fill(bytes, out);
-            Decoded::Words(n)
-        }
-        Decoded::Damaged(at) => Decoded::Damaged(at),
-        Decoded::Full => Decoded::Full,
+    let n = measure(bytes)?;
+    if out.len() < n {
+        return Err(DecodeError::NoRoom);
     }
+    fill(bytes, out);
+    Ok(n)
 }

@@ -1,38 +1,21 @@
 // One sequence of UTF-8: RFC 3629, section 3.
-ghost use Rattle.std.specs.Prelude.{◌<◌, ◌≡◌, ◌&&◌};
+ghost use Rattle.std.specs.Prelude.{◌<◌, ◌≡◌};
 ghost use Rattle.decode.specs.Sequences as sequences;
+ghost use Rattle.decode.specs.Sequences.{sequence_of};
 
-// What stands at the front of some bytes.
+// A word, and how many bytes follow the first of its sequence.
 #[derive(Clone, Copy)]
-pub enum Sequence {
-    Damaged,
-    // A word, and how many bytes follow the first.
-    Word(u16, usize),
-}
-
-fn both(p: bool, q: bool) -> bool
-    ensures { result ≡ (p && q) }
-{
-    if p {
-        return q;
-    }
-    false
+pub struct Sequence {
+    pub word: u16,
+    pub more: usize,
 }
 
 // Whether a byte continues a sequence.
+#[tactic(auto, unfolding(crate::specs::Sequences::continues))]
 fn continues(b: u8) -> bool
     ensures { result ≡ sequences.continues b }
 {
     b / 64 == 0b10
-}
-
-fn within(least: u32, most: u32, c: u32) -> bool
-    ensures { result ≡ sequences.within least most c }
-{
-    if least <= c {
-        return c <= most;
-    }
-    false
 }
 
 // Bits of a code point, and the six of a byte that continues it.
@@ -43,61 +26,62 @@ fn joined(bits: u32, b: u8) -> u32
     bits * 64 + (b % 64) as u32
 }
 
-fn two(a: u8, b: u8) -> Sequence
-    ensures { result ≡ sequences.two a b }
+// The forms of more than one byte, or none where the bytes are damaged.
+#[tactic(auto, unfolding(crate::specs::Sequences::two, crate::specs::Sequences::within))]
+fn two(a: u8, b: u8) -> Option<Sequence>
+    ensures { sequence_of result ≡ sequences.two a b }
 {
     let v = joined((a % 32) as u32, b);
-    if both(continues(b), within(0x80, 0x7FF, v)) {
-        return Sequence::Word(v as u16, 1);
+    if continues(b) && (0x80..=0x7FF).contains(&v) {
+        return Some(Sequence {
+            word: v as u16,
+            more: 1,
+        });
     }
-    Sequence::Damaged
+    None
 }
 
-fn three(a: u8, b: u8, c: u8) -> Sequence
-    ensures { result ≡ sequences.three a b c }
+#[tactic(auto, unfolding(crate::specs::Sequences::three, crate::specs::Sequences::within))]
+fn three(a: u8, b: u8, c: u8) -> Option<Sequence>
+    ensures { sequence_of result ≡ sequences.three a b c }
 {
     let v = joined(joined((a % 16) as u32, b), c);
-    let form = both(both(continues(b), continues(c)), within(0x800, 0xFFFF, v));
-    if both(form, !within(0xD800, 0xDFFF, v)) {
-        return Sequence::Word(v as u16, 2);
+    let surrogate = (0xD800..=0xDFFF).contains(&v);
+    if continues(b) && continues(c) && (0x800..=0xFFFF).contains(&v) && !surrogate {
+        return Some(Sequence {
+            word: v as u16,
+            more: 2,
+        });
     }
-    Sequence::Damaged
+    None
 }
 
-fn four(a: u8, b: u8, c: u8, d: u8) -> Sequence
-    ensures { result ≡ sequences.four a b c d }
+#[tactic(auto, unfolding(crate::specs::Sequences::four, crate::specs::Sequences::within))]
+fn four(a: u8, b: u8, c: u8, d: u8) -> Option<Sequence>
+    ensures { sequence_of result ≡ sequences.four a b c d }
 {
     let v = joined(joined(joined((a % 8) as u32, b), c), d);
-    let form = both(both(continues(b), continues(c)), continues(d));
-    if both(form, within(0x10000, 0x10FFFF, v)) {
-        return Sequence::Word(0, 3);
+    if continues(b) && continues(c) && continues(d) && (0x10000..=0x10FFFF).contains(&v) {
+        return Some(Sequence { word: 0, more: 3 });
     }
-    Sequence::Damaged
-}
-
-// The byte at a place, 0 past the end.
-fn byte(s: &[u8], at: usize) -> u8
-    ensures { result ≡ sequences.byte at s.now }
-{
-    if at < s.len() { s[at] } else { 0 }
+    None
 }
 
 // The sequence at the front of some bytes.
-pub fn front(s: &[u8]) -> Sequence
-    ensures { result ≡ sequences.front s.now }
+#[tactic(auto, unfolding(crate::specs::Sequences::front))]
+pub fn front(s: &[u8]) -> Option<Sequence>
+    ensures { sequence_of result ≡ sequences.front s.now }
 {
-    let a = byte(s, 0);
-    if a / 128 == 0b0 {
-        return Sequence::Word(a as u16, 0);
+    let byte = |at: usize| s.get(at).copied().unwrap_or(0);
+    let a = byte(0);
+    match a {
+        0b0000_0000..=0b0111_1111 => Some(Sequence {
+            word: a as u16,
+            more: 0,
+        }),
+        0b1100_0000..=0b1101_1111 => two(a, byte(1)),
+        0b1110_0000..=0b1110_1111 => three(a, byte(1), byte(2)),
+        0b1111_0000..=0b1111_0111 => four(a, byte(1), byte(2), byte(3)),
+        _ => None,
     }
-    if a / 32 == 0b110 {
-        return two(a, byte(s, 1));
-    }
-    if a / 16 == 0b1110 {
-        return three(a, byte(s, 1), byte(s, 2));
-    }
-    if a / 8 == 0b11110 {
-        return four(a, byte(s, 1), byte(s, 2), byte(s, 3));
-    }
-    Sequence::Damaged
 }

@@ -100,6 +100,8 @@ below_table c a b h = nowhere c a b (rw (lt-leb 0x3000 c h))
 pub above_table : (c : ℕ) → (c ≡ 0xFF0E → ⊥) → (c ≡ 0xFF0C → ⊥) → 0x30FF < c → none ≡ place_of c
 above_table c a b h = nowhere c a b (rw (le-leb 0x3000 c (omega arith), lt-leb c 0x30FF h))
 
+pub ruleset outside_table = (below_table, above_table)
+
 -- what the entry of a code point of the table says
 pub in_table : (c e : ℕ) (r : Option Place) → 0x3000 ≤ c → e ≡ entry_of (place_of (0x3000 + (c - 0x3000))) → r ≡ place_at e
     → r ≡ place_of c

@@ -1,18 +1,17 @@
 -- Document 02, 2/12: where a character stands on the layout of document 01.
-use Rattle.std.specs.Prelude.{ℕ, suc, List, [], ◌∷◌, eqb}
+use Rattle.std.specs.Prelude.{ℕ, suc, List, [], ◌∷◌, eqb, Some, None}
+use Rattle.std.specs.Prelude as code
 use Rattle.std.proofs.Math.Option.{Option, none, some}
 use Rattle.choice.specs.Choice.{if◌then◌orelse◌}
 use Rattle.rules.specs.Layout.{table, face_of}
-use Rattle.rules.specs.declared.Key.{Key}
 use Rattle.rules.specs.declared.Thumb.TheVariants.{Left, Right}
 use Rattle.rules.specs.declared.Face.{Face}
 use Rattle.rules.specs.declared.Face.TheVariants.{Plain, With}
-use Rattle.lookup.specs.declared.Found.{Found}
-use Rattle.lookup.specs.declared.Found.TheVariants.{At, Nowhere}
+use Rattle.lookup.specs.declared.Place as declared
 
-pub record Place : Type 0 where
-  pub key : Key
-  pub face : Face
+-- a key and a face
+abbrev pub Place : Type 0
+Place = declared.Place
 
 abbrev pub place : ℕ → Face → Place
 place k f = record { key = record { 0 = k }; face = f }
@@ -36,7 +35,7 @@ unfoldable pub place_of : ℕ → Option Place
 unfolding table
 place_of c = if eqb c 0 then none orelse or_else (on_face Plain c) (or_else (on_face (With Left) c) (on_face (With Right) c))
 
--- what the cases of the answer of `find` say
-abbrev pub found : Found → Option Place
-found (At k f) = some (record { key = k; face = f })
-found Nowhere = none
+-- what the answer of `find` says
+abbrev pub found : code.Option Place → Option Place
+found (Some p) = some p
+found None = none

@@ -7,11 +7,11 @@ ghost use Rattle.lookup.specs.Entries.{entry_of, place_at};
 
 use rules::{Face, Key, Thumb};
 
-// The answer of `find`.
+// A key and a face of the layout.
 #[derive(Clone, Copy)]
-pub enum Found {
-    At(Key, Face),
-    Nowhere,
+pub struct Place {
+    pub key: Key,
+    pub face: Face,
 }
 
 // The two full-width signs, which stand outside the table.
@@ -25,7 +25,7 @@ const FIRST: u16 = 0x3000;
 const LAST: u16 = 0x30FF;
 
 // From U+3000 to U+30FF: 32 and the key for the plain face, 64 and the key with the left thumb, 96 and the key with the right
-// thumb; 0 for a code point on no face.
+// thumb; 0 for a code point on no face. One byte each, since 256 places written out would be long to read.
 const PLACES: [u8; 256] = [
     0, 62, // 、
     52, // 。
@@ -127,38 +127,30 @@ fn entry(i: usize) -> u8
 }
 
 // What an entry says.
-fn place_at(entry: u8) -> Found
+#[tactic(auto, unfolding(crate::specs::Entries::place_at))]
+fn place_at(entry: u8) -> Option<Place>
     ensures { found result ≡ place_at entry }
 {
+    let face = match entry / 32 {
+        1 => Face::Plain,
+        2 => Face::With(Thumb::Left),
+        3 => Face::With(Thumb::Right),
+        _ => return None,
+    };
     let key = Key(entry % 32);
-    let face = entry / 32;
-    if face == 1 {
-        return Found::At(key, Face::Plain);
-    }
-    if face == 2 {
-        return Found::At(key, Face::With(Thumb::Left));
-    }
-    if face == 3 {
-        return Found::At(key, Face::With(Thumb::Right));
-    }
-    Found::Nowhere
+    Some(Place { key, face })
 }
 
-// The key and the face of a character, or that it is on no face.
-pub fn find(c: u16) -> Found
+// Where a character stands, or none where it is on no face.
+#[tactic(auto, using(crate::proofs::Table::outside_table))]
+pub fn find(c: u16) -> Option<Place>
     ensures { found result ≡ place_of c }
 {
-    if c == STOP {
-        return Found::At(Key(0), Face::Plain);
+    let face = Face::Plain;
+    match c {
+        STOP => Some(Place { key: Key(0), face }),
+        COMMA => Some(Place { key: Key(29), face }),
+        FIRST..=LAST => place_at(entry((c - FIRST) as usize)),
+        _ => None,
     }
-    if c == COMMA {
-        return Found::At(Key(29), Face::Plain);
-    }
-    if c < FIRST {
-        return Found::Nowhere;
-    }
-    if LAST < c {
-        return Found::Nowhere;
-    }
-    place_at(entry((c - FIRST) as usize))
 }

@@ -23,9 +23,9 @@ use Rattle.notation.specs.Notation.{settings_text, pair_text, pairs_text, list_t
 use Rattle.notation.specs.RoundTrip.{Bytes}
 use Rattle.notation.specs.declared.Field.{Field}
 use Rattle.notation.specs.declared.Field.TheVariants.{Start, T, J, L, Solo, Key, Stamp, Ts, N, First, Second, Character}
-use Rattle.notation.specs.declared.Follow.TheVariants.{Reads}
-use Rattle.notation.specs.declared.Step.TheVariants.{Next}
-use Rattle.notation.specs.Transcribing.{is_blank, ends_entry, with_sign, no_signs, packed, push, kind_and_key, following, start}
+use Rattle.notation.specs.declared.Tag.TheVariants as tags
+use Rattle.std.specs.Prelude.{Some, Ok}
+use Rattle.notation.specs.Transcribing.{is_blank, ends_entry, with_sign, no_signs, packed, nothing, push, kind_and_key, following, start}
 use Rattle.notation.specs.Transcribing.{reading, behind}
 use Rattle.notation.specs.Transcribing.{base, most, last, whole, takes_letters, digit_value, at_sign, entry_step, step, Log}
 use Rattle.notation.specs.Transcribing.{from}
@@ -68,7 +68,7 @@ record Stroke (kind key : ℕ) (l : Log) : Type 0 where
   number_before : ℕ
   signs_before : ℕ
   passes : Passes start l (stroke_text kind key) (behind field_before number_before signs_before) l
-  announces : following field_before number_before signs_before ≡ Reads Stamp (kind_and_key kind key)
+  announces : following field_before number_before signs_before ≡ Some (Stamp, kind_and_key kind key)
 
 module _ (l : Log) where
   -- a character key
@@ -79,7 +79,7 @@ module _ (l : Log) where
         field_before = Key;
         number_before = key;
         signs_before = packed "@";
-        passes = number_passes Start 0 no_signs l Key 0 0 refl refl key h (omega arith) and_on (said key l).at_said;
+        passes = number_passes Start 0 no_signs l Key nothing refl refl refl key h (omega arith) and_on (said key l).at_said;
         announces = refl;
       }
 
@@ -90,13 +90,13 @@ module _ (l : Log) where
         field_before = Key;
         number_before = key;
         signs_before = packed "up@";
-        passes = number_passes Start 0 no_signs l Key 0 0 refl refl key h (omega arith) and_on (said key l).up_said;
+        passes = number_passes Start 0 no_signs l Key nothing refl refl refl key h (omega arith) and_on (said key l).up_said;
         announces = refl;
       }
 
   -- the others are signs alone
   signs_alone : (kind key signs : ℕ) → Passes start l (stroke_text kind key) (behind Start 0 signs) l
-      → following Start 0 signs ≡ Reads Stamp (kind_and_key kind key) → Stroke kind key l
+      → following Start 0 signs ≡ Some (Stamp, kind_and_key kind key) → Stroke kind key l
   signs_alone kind key signs p a = record { field_before = Start; number_before = 0; signs_before = signs; passes = p; announces = a }
 
   record Alone : Type 0 where
@@ -158,12 +158,12 @@ module _ (r : List ℕ) (bytes : Bytes r) (long : length r ≡ stated r) (before
   so_far at = log_to r bytes long before at
 
   -- one of the record's numbers, n bytes at a place: the number before it goes into the log, and this one is read
-  module _ (g f : Field) (v s n at : ℕ) (announced : following g v s ≡ Reads f (push (suc n) v)) (e : v ≡ number (suc n) at r)
+  module _ (g f : Field) (v s n at : ℕ) (announced : following g v s ≡ Some (f, push (suc n) v)) (e : v ≡ number (suc n) at r)
       (h : 3 ≤ at) (fits : at + suc n ≤ length r) where
     field_passes : base f ≡ 10 → (x : ℕ) → x ≤ most f → x < 100_000_000_000_000_000_000
         → Passes (behind g v s) (so_far at) (decimal x) (reading f x) (so_far (at + suc n))
     field_passes tens x small short =
-        rw (log_grows r bytes long before n at v h fits e) at (number_passes g v s (so_far at) f (suc n) v announced tens x small short)
+        rw (log_grows r bytes long before n at v h fits e) at (number_passes g v s (so_far at) f (push (suc n) v) announced refl tens x small short)
 
   module _ (is : is_settings r ≡ true) where
     pub settings_tag : tag r ≡ 1
@@ -187,7 +187,7 @@ module _ (r : List ℕ) (bytes : Bytes r) (long : length r ≡ stated r) (before
         let solo = byte 7 r in
         let few : length r ≡ 8 = settings_long in
         T_said
-        and_on number_passes Start 0 (packed "T=") (so_far 3) T 0 0 refl refl t (omega (arith, bytes 3, bytes 4)) (omega (
+        and_on number_passes Start 0 (packed "T=") (so_far 3) T nothing refl refl refl t (omega (arith, bytes 3, bytes 4)) (omega (
           arith,
           bytes 3,
           bytes 4,
@@ -203,7 +203,7 @@ module _ (r : List ℕ) (bytes : Bytes r) (long : length r ≡ stated r) (before
         and_on (said l (so_far 6)).solo_said
         and_on field_passes L Solo l (packed "solo=") 0 6 refl (omega arith) (omega arith) (omega arith) refl solo (omega (arith, bytes 7))
         (omega (arith, bytes 7))
-        and_on log_ends r bytes long before Solo 0 0 7 solo refl settings_tag (omega arith) (omega arith) (omega arith)
+        and_on log_ends r bytes long before Solo tags.Settings 0 7 solo refl settings_tag (omega arith) (omega arith) (omega arith)
 
   module _ (is : is_event r ≡ true) (i : Input) (allowed : input (byte 3 r) (record { 0 = byte 4 r }) ≡ some i) where
     pub event_tag : tag r ≡ 2
@@ -227,10 +227,10 @@ module _ (r : List ℕ) (bytes : Bytes r) (long : length r ≡ stated r) (before
           arith,
           bytes 4,
         )))
-        at (number_passes s.field_before s.number_before s.signs_before (so_far 3) Stamp 2 (byte 3 r * 256 + byte 4 r % 256)
-        s.announces refl
+        at (number_passes s.field_before s.number_before s.signs_before (so_far 3) Stamp (kind_and_key (byte 3 r) (byte 4 r))
+        s.announces refl refl
         stamp stamp_most (omega (arith, stamp_most))) in
-        s.passes and_on known and_on log_ends r bytes long before Stamp 1 7 5 stamp refl event_tag (omega arith) (omega arith) refl
+        s.passes and_on known and_on log_ends r bytes long before Stamp tags.Event 7 5 stamp refl event_tag (omega arith) (omega arith) refl
 
   module _ (is : is_list r ≡ true) where
     pub list_tag : tag r ≡ 3
@@ -243,11 +243,11 @@ module _ (r : List ℕ) (bytes : Bytes r) (long : length r ≡ stated r) (before
     two_small at = omega (arith, bytes (at + 0), bytes (at + 1))
 
     -- pairs behind a number of a list, N or a pair's character, and the line's end
-    pairs_pass : (k : ℕ) (f : Field) (v n at : ℕ) → following f v no_signs ≡ Reads First (push (suc n) v)
-        → whole f v start ≡ Next start (last 3 (suc n) v) → v ≡ number (suc n) at r → 3 ≤ at → at + suc n + 4 * k ≡ length r
+    pairs_pass : (k : ℕ) (f : Field) (v n at : ℕ) → following f v no_signs ≡ Some (First, push (suc n) v)
+        → whole f v start ≡ Ok (start, last tags.List (suc n) v) → v ≡ number (suc n) at r → 3 ≤ at → at + suc n + 4 * k ≡ length r
         → Passes (reading f v) (so_far at) (pairs_text (pairs_from k (at + suc n) r) ++ lines.line_end) start with_record
     unfolding pair_text following
-    pairs_pass zero f v n at announced ends e h fits = log_ends r bytes long before f 2 n at v ends list_tag h (omega arith) e
+    pairs_pass zero f v n at announced ends e h fits = log_ends r bytes long before f tags.List n at v ends list_tag h (omega arith) e
     pairs_pass (suc k) f v n at announced ends e h fits =
         let p = at + suc n in
         let first = byte p r in
@@ -280,7 +280,7 @@ module _ (r : List ℕ) (bytes : Bytes r) (long : length r ≡ stated r) (before
         let k = (length r - 6) / 4 in
         let fits : 6 + 4 * k ≡ length r = omega (arith, list_facts r is) in
         let head = Ts_said
-        and_on number_passes Start 0 (packed "T_s=") (so_far 3) Ts 0 0 refl refl ts (two_small 3) (omega (arith, two_small 3))
+        and_on number_passes Start 0 (packed "T_s=") (so_far 3) Ts nothing refl refl refl ts (two_small 3) (omega (arith, two_small 3))
         and_on (said ts (so_far 3)).N_said
         and_on field_passes Ts N ts (packed "N=") 1 3 refl refl (omega arith) (omega arith) refl n (omega (arith, bytes 5)) (omega (
           arith,

@@ -16,8 +16,8 @@ use Rattle.notation.specs.declared.Field.{Field}
 use Rattle.notation.specs.declared.Field.TheVariants.{Second, Character}
 use Rattle.notation.specs.declared.Progress.{Progress}
 use Rattle.notation.specs.declared.Output.{Output}
-use Rattle.notation.specs.declared.Follow.TheVariants.{Reads}
-use Rattle.notation.specs.Transcribing.{packed, base, most, push, takes_letters, digit_value, following, reading, behind}
+use Rattle.std.specs.Prelude.{Some}
+use Rattle.notation.specs.Transcribing.{packed, base, most, push, tag_of, is_comment, takes_letters, digit_value, following, reading, behind}
 use Rattle.notation.specs.Transcribing.{at_digit, entry_step, step, Log, with_output, from}
 use Rattle.notation.specs.Notation.{letter, code_point}
 
@@ -52,29 +52,24 @@ no_digit_32 true = refl
 no_digit_32 false = refl
 
 -- a digit that is taken for one
-digit_step : (f : Field) (n : ℕ) (growing : Bool) (s b d : ℕ)
-    → let p : Progress = record { field = f; number = n; growing = growing; signs = s; comment = false } in
-    digit_value (takes_letters p) b ≡ d → d < 16 → step p b ≡ at_digit p d
+digit_step : (p : Progress) → is_comment p ≡ false → (b d : ℕ) → digit_value (takes_letters p) b ≡ d → d < 16 → step p b ≡ at_digit p d
 unfolding step entry_step
-digit_step f n growing s b d is small = rw (is, lt-ltb d 16 small)
+digit_step p out b d is small = rw (out, is, lt-ltb d 16 small)
 
 -- behind digits, one more
 next_digit : (f : Field) (n b d : ℕ) (l : Log) → digit_value (takes_letters (reading f n)) b ≡ d → d < 16 → n * base f + d ≤ most f
     → Passes (reading f n) l (b ∷ []) (reading f (n * base f + d)) l
 unfolding from at_digit
 next_digit f n b d l is small fits =
-    record { goes_on = λ rest. rw (digit_step f n true 1 b d is small, le-leb (n * base f + d) (most f) fits) }
+    record { goes_on = λ rest. rw (digit_step (reading f n) refl b d is small, le-leb (n * base f + d) (most f) fits) }
 
 -- A number that signs announce. What is known of the record by then goes into the log.
-module _ (g : Field) (n s : ℕ) (l : Log) (f : Field) (width value : ℕ) where
-  abbrev known : Output
-  known = record { width = width; value = value; tag = 0 }
-
-  module _ (announced : following g n s ≡ Reads f known) where
+module _ (g : Field) (n s : ℕ) (l : Log) (f : Field) (known : Output) where
+  module _ (announced : following g n s ≡ Some (f, known)) (no_end : tag_of known ≡ 0) where
     first_digit : (b d : ℕ) → digit_value (takes_letters (behind g n s)) b ≡ d → d < 16
         → Passes (behind g n s) l (b ∷ []) (reading f d) (with_output l known)
     unfolding from at_digit
-    first_digit b d is small = record { goes_on = λ rest. rw (digit_step g n false s b d is small, announced) }
+    first_digit b d is small = record { goes_on = λ rest. rw (digit_step (behind g n s) refl b d is small, announced, no_end) }
 
     decimal_first : (x : ℕ) → x < 10 → Passes (behind g n s) l (hex_digit_ascii x ∷ []) (reading f x) (with_output l known)
     decimal_first x h = first_digit (hex_digit_ascii x) x (value_is (takes_letters (behind g n s)) x h) (omega arith)
@@ -128,7 +123,7 @@ module _ (n : ℕ) (l : Log) where
       let n2 = d1 * 16 + d2 in
       let n3 = n2 * 16 + d3 in
       let back : n3 * 16 + d4 ≡ x = omega arith in
-      first_digit Second n (packed "=U+") l Character 1 n refl (letter d1) d1 (letter_is d1 (omega arith)) (omega arith)
+      first_digit Second n (packed "=U+") l Character (push 1 n) refl refl (letter d1) d1 (letter_is d1 (omega arith)) (omega arith)
       and_on next_digit Character d1 (letter d2) d2 m (letter_is d2 (omega arith)) (omega arith) (omega arith)
       and_on next_digit Character n2 (letter d3) d3 m (letter_is d3 (omega arith)) (omega arith) (omega arith)
       and_on (rw back at (next_digit Character n3 (letter d4) d4 m (letter_is d4 (omega arith)) (omega arith) (omega arith)))

@@ -12,11 +12,18 @@ use Rattle.keylog.proofs.Walking.{at_least_3}
 use Rattle.writer.specs.Drills.{record_of}
 use Rattle.notation.specs.RoundTrip.{Bytes}
 use Rattle.notation.specs.declared.Field.{Field}
-use Rattle.notation.specs.declared.Step.TheVariants.{Next}
-use Rattle.notation.specs.Transcribing.{line_end, start, reading, push, last, whole, is_blank, ends_entry, ended, takes_letters}
+use Rattle.notation.specs.declared.Tag.{Tag}
+use Rattle.notation.specs.declared.Tag.TheVariants as tags
+use Rattle.std.specs.Prelude.{Ok}
+use Rattle.notation.specs.Transcribing.{line_end, start, reading, push, tag_number, last, whole, is_blank, ends_entry, ended, takes_letters}
 use Rattle.notation.specs.Transcribing.{at_sign, entry_step, step}
 use Rattle.notation.specs.Transcribing.{Log, with_output, from}
 use Rattle.notation.proofs.Passing.{Passes, no_digit_10}
+
+no_tag_0 : (t : Tag) → tag_number t ≡ 0 → ⊥
+no_tag_0 tags.Settings z = omega arith
+no_tag_0 tags.Event z = omega arith
+no_tag_0 tags.List z = omega arith
 
 module _ (r : List ℕ) (bytes : Bytes r) where
   -- the bytes of a number that was read off them
@@ -77,7 +84,7 @@ module _ (r : List ℕ) (bytes : Bytes r) where
           ap (λ (l : List ℕ). record { records = before; body = l }) (rw (e, ne_eqb (suc n) 0 (λ z. omega arith))
           (body_grows (suc n) at h fits))
 
-      module _ (f : Field) (t n at v : ℕ) (ends : whole f v start ≡ Next start (last (suc t) (suc n) v)) (tagged : tag r ≡ suc t)
+      module _ (f : Field) (t : Tag) (n at v : ℕ) (ends : whole f v start ≡ Ok (start, last t (suc n) v)) (tagged : tag r ≡ tag_number t)
           (h : 3 ≤ at) (fits : at + suc n ≡ length r) (e : v ≡ number (suc n) at r) where
         whole_body : body_to at ++ bytes_of (suc n) v ≡ drop 3 r
         whole_body =
@@ -91,7 +98,7 @@ module _ (r : List ℕ) (bytes : Bytes r) where
                   rw (
                     no_digit_10 (takes_letters (reading f v)),
                     ends,
-                    ne_eqb (suc t) 0 (λ z. omega arith),
+                    ne_eqb (tag_number t) 0 (no_tag_0 t),
                     ne_eqb (suc n) 0 (λ z. omega arith),
                     whole_body,
                   )

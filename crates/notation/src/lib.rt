@@ -4,7 +4,7 @@
 
 // What was read last of an entry: nothing, or one of its numbers. Settings have T, J, L and solo; an event a key and a stamp, or a
 // stamp alone; a list T_s and N, then the two keys and the character of each pair.
-#[derive(Clone, Copy)]
+#[derive(Clone, Copy, PartialEq, Eq)]
 pub enum Field {
     Start,
     T,
@@ -20,32 +20,42 @@ pub enum Field {
     Character,
 }
 
-// Where a transcriber is. The number is that of the field. It is growing while its digits may go on; behind them stand signs, packed as
-// one number. In a comment bytes count nothing.
+// Where a transcriber is.
 #[derive(Clone, Copy)]
-pub struct Progress {
-    pub field: Field,
-    pub number: u64,
-    pub growing: bool,
-    pub signs: u64,
-    pub comment: bool,
+pub enum Progress {
+    // In a comment bytes count nothing.
+    Comment,
+    // Behind digits of a field's number, which may go on.
+    Reading(Field, u64),
+    // Behind a field, its number, and signs, which are packed as one number.
+    Behind(Field, u64, u64),
 }
 
-// What a byte of the text adds to the log: a number in so many bytes, none at all where the width is 0; then, if the tag is not 0, the
-// record is whole.
+// The records of a log, by their tags.
 #[derive(Clone, Copy)]
-pub struct Output {
+pub enum Tag {
+    Settings = 1,
+    Event = 2,
+    List = 3,
+}
+
+// A number in so many bytes.
+#[derive(Clone, Copy)]
+pub struct Number {
     pub width: u8,
     pub value: u64,
-    pub tag: u8,
 }
 
-// The number that signs announce, with what is known of the record by then. Unfit: such signs can't stand there.
+// What a byte of the text adds to the log: nothing, a number, or the last number of a record.
 #[derive(Clone, Copy)]
-pub enum Follow {
-    Reads(Field, Output),
-    Unfit,
+pub enum Output {
+    Nothing,
+    Push(Number),
+    Last(Tag, Number),
 }
+
+// The field that signs announce, with what is known of the record by then; or they can't stand there.
+pub type Follow = Option<(Field, Output)>;
 
 // What was expected where a text is no notation: what may stand behind a field, a number that is no larger, or a list that is shorter.
 #[derive(Clone, Copy)]
@@ -55,9 +65,5 @@ pub enum Expected {
     FewerPairs,
 }
 
-// One byte of a text.
-#[derive(Clone, Copy)]
-pub enum Step {
-    Next(Progress, Output),
-    Wrong(Expected),
-}
+// One byte of a text: where the transcriber is then, and what is added to the log.
+pub type Step = Result<(Progress, Output), Expected>;

@@ -2,7 +2,7 @@
 #![tactic(auto)]
 
 mod log;
-mod numbers;
+mod page;
 mod records;
 mod refusal;
 
@@ -10,19 +10,14 @@ ghost use Rattle.std.specs.Prelude.{length};
 ghost use Rattle.notator.specs.Notates.{Notates, Within};
 
 use log::put_log;
+use status_line::Printed;
 
-// What a log gave.
+// Why a log was not notated. Nothing was read, and nothing was written.
 #[derive(Clone, Copy)]
-pub enum Notated {
-    // Its text was written, in so many bytes; the number and the offset are those of the log.
-    Text {
-        bytes: usize,
-        number: u32,
-        offset: usize,
-    },
-    // The run is shorter than `ROOM_PER_BYTE` for each of the log's bytes and `ROOM_BESIDES`: nothing was read, and nothing was written.
+pub enum Unnotated {
+    // The run is shorter than `ROOM_PER_BYTE` for each of the log's bytes and `ROOM_BESIDES`.
     NoRoom,
-    // The log is longer than `LONGEST_LOG`: nothing was read, and nothing was written.
+    // The log is longer than `LONGEST_LOG`.
     Unread,
 }
 
@@ -35,15 +30,15 @@ pub const ROOM_PER_BYTE: usize = 4;
 pub const ROOM_BESIDES: usize = 128;
 
 // A log, notated at the front of a run.
-pub fn notate(log: &[u8], out: &mut [u8]) -> Notated
+pub fn notate(log: &[u8], out: &mut [u8]) -> Result<Printed, Unnotated>
     ensures notates { Notates log.now out.old result out.new }
     ensures within { Within (length out.old) result }
 {
     if LONGEST_LOG < log.len() {
-        return Notated::Unread;
+        return Err(Unnotated::Unread);
     }
     if out.len() < ROOM_PER_BYTE * log.len() + ROOM_BESIDES {
-        return Notated::NoRoom;
+        return Err(Unnotated::NoRoom);
     }
-    put_log(log, out)
+    Ok(put_log(log, out))
 }

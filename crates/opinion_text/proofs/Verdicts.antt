@@ -23,7 +23,7 @@ use Rattle.status_line.specs.Status.{below}
 use Rattle.status_line.proofs.Statuses.{below_stored}
 use Rattle.opinion_text.specs.Verdict.{unpacked, lines}
 use Rattle.opinion_text.specs.Shows.{longest_log, word_room, packed_room, text_room, fits, shown, Shows}
-use Rattle.opinion_text.specs.declared.Shown.TheVariants.{Unread, Text}
+use Rattle.std.specs.Prelude.{None, Some}
 use Rattle.opinion_text.proofs.Unpacking.{unpacked_back}
 
 pub lines_stored : (words : List ℕ) (number waiting offset : ℕ) (run : List ℕ) (n1 : ℕ) (m1 : List ℕ) (n2 : ℕ) (m2 : List ℕ)
@@ -72,7 +72,7 @@ module _ (l : List ℕ) (short : length l ≤ longest_log) where
 
     pub is_shown : (run : List ℕ) → text_room ≤ length run → (n : ℕ) (out : List ℕ)
         → Stored 0 (lines (unpacked (take (2 * answer.words) after)) answer.number answer.waiting answer.offset) run n out
-        → Shows l run (Text n answer.number answer.offset) out
+        → Shows l run (Some (record { bytes = n; number = answer.number; offset = answer.offset })) out
     is_shown run k n out s =
         let e : fits l run ≡ true = rw (le-leb (length l) longest_log short, le-leb text_room (length run) k) in
         let t : Stored 0 (shown l) run n out = rw lines_are at s in
@@ -80,12 +80,12 @@ module _ (l : List ℕ) (short : length l ≤ longest_log) where
 
 -- The contract of `show`.
 
-pub too_long : (l run : List ℕ) → longest_log < length l → Shows l run Unread run
+pub too_long : (l run : List ℕ) → longest_log < length l → Shows l run None run
 too_long l run h =
     let e : leb (length l) longest_log ≡ false = lt-leb (length l) longest_log h in
     record { answered = rw e; written = rw e }
 
-pub no_room : (l run : List ℕ) → length run < text_room → Shows l run Unread run
+pub no_room : (l run : List ℕ) → length run < text_room → Shows l run None run
 no_room l run h =
     let e : fits l run ≡ false = rw (lt-leb text_room (length run) h) (and-false (leb (length l) longest_log)) in
     record { answered = rw e; written = rw e }

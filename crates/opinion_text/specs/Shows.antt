@@ -1,11 +1,10 @@
 -- What the functions of this crate do.
-use Rattle.std.specs.Prelude.{ℕ, ◌≤◌, Bool, ◌&&◌, List, ◌≡◌, leb, length}
+use Rattle.std.specs.Prelude.{ℕ, ◌≤◌, Bool, ◌&&◌, List, ◌≡◌, leb, length, Option, None, Some}
 use Rattle.choice.specs.Choice.{if◌then◌orelse◌}
 use Rattle.filled.specs.Filled.{filled}
 use Rattle.log_opinions.specs.OfLog.{on_log}
 use Rattle.opinion_text.specs.Verdict.{opinion_text}
-use Rattle.opinion_text.specs.declared.Shown.{Shown}
-use Rattle.opinion_text.specs.declared.Shown.TheVariants.{Unread, Text}
+use Rattle.status_line.specs.declared.Printed.{Printed}
 
 -- the program's buffer, in bytes
 abbrev pub longest_log : ℕ
@@ -31,11 +30,12 @@ abbrev pub shown : List ℕ → List ℕ
 shown l = opinion_text (on_log l)
 
 -- The text stands at the run's front, and the rest is as it was; where nothing was read, the run is as it was.
-pub record Shows (l run : List ℕ) (answer : Shown) (after : List ℕ) : Type 0 where
-  pub answered : answer ≡ if fits l run then Text (length (shown l)) (on_log l).number (on_log l).offset orelse Unread
+pub record Shows (l run : List ℕ) (answer : Option Printed) (after : List ℕ) : Type 0 where
+  pub answered : answer ≡ if fits l run
+      then Some (record { bytes = length (shown l); number = (on_log l).number; offset = (on_log l).offset }) orelse None
   pub written : after ≡ if fits l run then filled (shown l) run orelse run
 
 -- the text that is answered lies within a length
-abbrev pub Within : ℕ → Shown → Type 0
-Within n Unread = Unit {0}
-Within n (Text bytes number offset) = bytes ≤ n
+abbrev pub Within : ℕ → Option Printed → Type 0
+Within n None = Unit {0}
+Within n (Some p) = p.bytes ≤ n

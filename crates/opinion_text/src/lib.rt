@@ -1,11 +1,13 @@
 // What the program `opinion` prints of a log, as text in a lent run. specs/Verdict.antt says what it is.
 #![tactic(auto)]
 
-ghost use Rattle.std.specs.Prelude.{◌+◌, ◌*◌, ◌/◌, ◌≤◌, ◌≡◌, length};
+ghost use Rattle.std.specs.Prelude.{◌+◌, ◌*◌, ◌/◌, ◌≤◌, ◌≡◌, length, Some};
 ghost use Rattle.filled.specs.Filled.{Stored};
 ghost use Rattle.text.specs.Text as texts;
 ghost use Rattle.opinion_text.specs.Verdict.{unpacked, lines};
 ghost use Rattle.opinion_text.specs.Shows.{longest_log, packed_room, text_room, Shows, Within};
+
+use status_line::Printed;
 
 // The longest log that is read.
 pub const LONGEST_LOG: usize = 1048576;
@@ -14,31 +16,18 @@ pub const TEXT_ROOM: usize = 484011;
 // A run of this length has room for its words, two bytes each.
 const PACKED_ROOM: usize = 322638;
 
-// What a log gave.
-#[derive(Clone, Copy)]
-pub enum Shown {
-    // It is longer than `LONGEST_LOG`, or the run is shorter than `TEXT_ROOM`: nothing was read, and nothing was written.
-    Unread,
-    // So many bytes of text were written; the number and the offset are those of the log.
-    Text {
-        bytes: usize,
-        number: u32,
-        offset: usize,
-    },
-}
-
-// A buffer as it is given: a parameter's length is known by its type, that of a new array would take too long to compute.
-fn with_packed(packed: [u8; PACKED_ROOM]) -> [u8; PACKED_ROOM]
+// A buffer of zeros: a result's length is known by its type, that of a new array would take too long to compute.
+fn buffer() -> [u8; PACKED_ROOM]
     ensures { packed_room ≡ length result }
 {
-    packed
+    [0; PACKED_ROOM]
 }
 
 // A word of two bytes.
 fn word(high: u8, low: u8) -> u16
     ensures { result ≡ high * 256 + low }
 {
-    high as u16 * 256 + low as u16
+    u16::from_be_bytes([high, low])
 }
 
 // The text of words at the front of a run. Answers the place behind it.
@@ -67,13 +56,13 @@ fn put_lines(out: &mut [u8], packed: &[u8], number: u32, waiting: u32, offset: u
 }
 
 // A log looked over where there is room for its text.
-fn put_log(log: &[u8], out: &mut [u8]) -> Shown
+fn put_log(log: &[u8], out: &mut [u8]) -> Printed
     requires log_len_bound { length log.now ≤ longest_log }
     requires text_room_in_bounds { text_room ≤ length out.old }
-    ensures shows { Shows log.now out.old result out.new }
-    ensures within { Within (length out.old) result }
+    ensures shows { Shows log.now out.old (Some result) out.new }
+    ensures within { result.bytes ≤ length out.old }
 {
-    let mut packed = with_packed([0; PACKED_ROOM]);
+    let mut packed = buffer();
     let answer = second_opinion::opine(log, &mut packed);
     let n = 2 * answer.words;
     let bytes = put_lines(
@@ -83,23 +72,21 @@ fn put_log(log: &[u8], out: &mut [u8]) -> Shown
         answer.waiting,
         answer.offset,
     );
-    Shown::Text {
-        bytes: bytes,
+    Printed {
+        bytes,
         number: answer.number,
         offset: answer.offset,
     }
 }
 
-// A log: the text that the program prints, at the front of a run of at least `TEXT_ROOM` bytes.
-pub fn show(log: &[u8], out: &mut [u8]) -> Shown
+// A log: the text that the program prints, at the front of a run of at least `TEXT_ROOM` bytes. None where the log is longer than
+// `LONGEST_LOG`, or the run is shorter: nothing was read, and nothing was written.
+pub fn show(log: &[u8], out: &mut [u8]) -> Option<Printed>
     ensures shows { Shows log.now out.old result out.new }
     ensures within { Within (length out.old) result }
 {
-    if LONGEST_LOG < log.len() {
-        return Shown::Unread;
+    if LONGEST_LOG < log.len() || out.len() < TEXT_ROOM {
+        return None;
     }
-    if out.len() < TEXT_ROOM {
-        return Shown::Unread;
-    }
-    put_log(log, out)
+    Some(put_log(log, out))
 }

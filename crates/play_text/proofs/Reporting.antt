@@ -1,20 +1,19 @@
 -- What the functions on a piece and on the end store, put together from its parts, and the room that it takes.
-use Prim.Native.Nat.{ℕ, ◌+◌, ◌-◌, ◌≤◌, ◌<◌}
+use Prim.Native.Nat.{ℕ, ◌+◌, ◌-◌, ◌≤◌}
 use native.Mathlib.Omega.{arith}
 use native.Mathlib.Nat.{zero-add}
-use borrow.Author.Tests.{le-leb, lt-leb}
-use mathlib.Core.Bool.{Bool, true, false, ◌&&◌, and-false, true≢false}
+use borrow.Author.Tests.{le-leb}
+use mathlib.Core.Bool.{Bool, true, false, ◌&&◌, true≢false}
 use mathlib.Core.Logic.{◌≢◌}
 use mathlib.Core.Path.{◌≡◌, refl, sym, ap, ◌∙◌}
 use mathlib.Core.List.{List, [], ◌∷◌}
-use mathlib.Core.Option.{Option, none, some, some-injective, none-ne-some}
-use lib.Dec.{leb}
+use mathlib.Core.Option.{Option, none, some}
 use lib.ListN.{length, take, drop, length-append, length-drop}
 use lib.Seq.{take-append_seam}
 use Rattle.filled.specs.Filled.{filled, Stored}
-use Rattle.text.specs.Text.{text, Encodes}
+use Rattle.text.specs.Text.{text}
 use Rattle.text.specs.Puts.{Puts}
-use Rattle.text.specs.declared.Encoded.TheVariants as encoded_as
+use Rattle.std.proofs.Common.{Some}
 use Rattle.text.proofs.Signs.{text_short}
 use Rattle.status_line.specs.Status.{below}
 use Rattle.status_line.proofs.Statuses.{below_stored}
@@ -30,9 +29,7 @@ use Rattle.log_reader.specs.Views.{reader_of, not_formed, usable, may_come_to, L
 use Rattle.log_reader.specs.declared.reader.Reader.{Reader}
 use Rattle.log_reader.specs.declared.reader.Fed.{Fed}
 use Rattle.play_text.specs.Printed.{closing}
-use Rattle.play_text.specs.Played.{buffer, word_room, text_room, played, brought, last, have_room, fits, Shows, Closes}
-use Rattle.play_text.specs.declared.Shown as Shown
-use Rattle.play_text.specs.declared.Ending as Ending
+use Rattle.play_text.specs.Played.{buffer, word_room, text_room, played, brought, last, have_room, fits, Shows, ending, Closes}
 use Rattle.play_text.specs.HoweverPlayed.{Reached}
 use Rattle.play_text.proofs.Sequences.{reached_sound}
 use Rattle.play_text.proofs.HoweverPlayed.{last_formed, end_eight}
@@ -44,23 +41,6 @@ last_unformed r f = rw f
 -- what is stored at a run's front fills it
 stored_filled : (new run : List ℕ) (n : ℕ) (after : List ℕ) → Stored 0 new run n after → (n ≡ length new) × (after ≡ filled new run)
 stored_filled new run n after s = (s.behind ∙ zero-add (length new), s.stored ∙ rw zero-add)
-
-filled_stored : (new run : List ℕ) (n : ℕ) (after : List ℕ) → n ≡ length new → after ≡ filled new run → Stored 0 new run n after
-filled_stored new run n after e f = record { behind = e ∙ sym (zero-add (length new)); stored = f ∙ rw zero-add }
-
--- the answer of `encode` where the text fits
-module _ (words run after : List ℕ) (fits : length (text words) ≤ length run) where
-  pub line_stored : (n : ℕ) → Encodes words run (encoded_as.Bytes n) after → Stored 0 (text words) run n after
-  line_stored n e =
-      let t : leb (length (text words)) (length run) ≡ true = le-leb (length (text words)) (length run) fits in
-      filled_stored (text words) run n after
-      (some-injective n (length (text words)) (rw t at e.answered))
-      (rw t at e.written)
-
-  pub line_fits : Encodes words run encoded_as.Full after → ⊥
-  line_fits e =
-      let t : leb (length (text words)) (length run) ≡ true = le-leb (length (text words)) (length run) fits in
-      none-ne-some (length (text words)) (rw t at e.answered)
 
 -- words that are as they are
 plain : (ws : List ℕ) → encoded as_it_is ws ≡ ws
@@ -109,7 +89,7 @@ pub record ReadPiece (reader : Reader) (list bytes : List ℕ) (fed : Fed) (list
   pub short : length (text (take n after)) ≤ text_room
   pub shows : (run : List ℕ) (k : ℕ) (out : List ℕ) → length bytes ≤ buffer → text_room ≤ length run
       → Stored 0 (text (take n after)) run k out
-      → Shows (reader_of list reader) bytes list run (Shown.TheVariants.Text fed.reader k) list-after out
+      → Shows (reader_of list reader) bytes list run (Some (record { next = fed.reader; bytes = k })) list-after out
 
 pub read_piece : (reader : Reader) (list bytes words : List ℕ) (fed : Fed) (list-after after : List ℕ)
     → room ≤ length list → word_room ≡ length words
@@ -132,30 +112,6 @@ read_piece reader list bytes words fed list-after after wide long h kept =
           let f = stored_filled (brought r bytes) run k out (rw the-words at s) in
           record { answered = rw (t, g.next, f.0); written = rw (t, f.1); lent = rw t g.lent };
     }
-
--- and where there is not
-unread : (r : pieces.Reader) (bytes list run : List ℕ) → fits bytes list run ≡ false
-    → Shows r bytes list run Shown.TheVariants.Unread list run
-unread r bytes list run t = record { answered = rw t; written = rw t; lent = leaves_same _ list list refl }
-
-pub too_long_piece : (r : pieces.Reader) (bytes list run : List ℕ) → buffer < length bytes
-    → Shows r bytes list run Shown.TheVariants.Unread list run
-too_long_piece r bytes list run h = unread r bytes list run (rw (lt-leb (length bytes) buffer h))
-
--- one of the runs has no room
-no_list_room : (list run : List ℕ) → length list < room → have_room list run ≡ false
-no_list_room list run h = rw (lt-leb room (length list) h)
-
-no_text_room : (list run : List ℕ) → length run < text_room → have_room list run ≡ false
-no_text_room list run h = rw (lt-leb text_room (length run) h, and-false)
-
-pub short_list : (r : pieces.Reader) (bytes list run : List ℕ) → length list < room
-    → Shows r bytes list run Shown.TheVariants.Unread list run
-short_list r bytes list run h = unread r bytes list run (rw (no_list_room list run h, and-false))
-
-pub no_room : (r : pieces.Reader) (bytes list run : List ℕ) → length run < text_room
-    → Shows r bytes list run Shown.TheVariants.Unread list run
-no_room r bytes list run h = unread r bytes list run (rw (no_text_room list run h, and-false))
 
 -- The number that the end answers is never 2, which is said only of a reader that is not well formed, nor 10, which is a drill's
 never_2 : (f : Option ℕ) (count : ℕ) → told_formed f count ≡ true → number_of f ≢ 2
@@ -183,15 +139,9 @@ ended reader list fed wide h = by (formed (reader_of list reader)) refl (rw (le-
     by false f s = rw s (sym (last_unformed (reader_of list reader) f))
 
 -- the contract of `show_end`
-pub short_end_list : (r : pieces.Reader) (list run : List ℕ) → length list < room → Closes r list run Ending.TheVariants.Full run
-short_end_list r list run h = let t = no_list_room list run h in record { answered = rw t; written = rw t }
-
-pub no_end_room : (r : pieces.Reader) (list run : List ℕ) → length run < text_room → Closes r list run Ending.TheVariants.Full run
-no_end_room r list run h = let t = no_text_room list run h in record { answered = rw t; written = rw t }
-
 pub end_shown : (r : pieces.Reader) (list run : List ℕ) (a : LogAnswer) (n : ℕ) (after : List ℕ)
     → room ≤ length list → text_room ≤ length run → a ≡ last r → Puts 0 (below a.number a.waiting a.offset) run n after
-    → Closes r list run (Ending.TheVariants.Text n a.number a.offset) after
+    → Closes r list run (Some (ending n a)) after
 unfolding closing
 end_shown r list run a n after wide long e p =
     let t : have_room list run ≡ true = roomy list run wide long in

@@ -10,7 +10,6 @@ use lib.ListN.{length, length-append}
 use Rattle.choice.proofs.Choices.{both_ways}
 use Rattle.filled.specs.Filled.{Stored}
 use Rattle.text.specs.Puts.{Puts}
-use Rattle.text.proofs.Putting.{put_few}
 use Rattle.io.specs.Digits.{last_digits, IsDigitCount}
 use Rattle.status_line.specs.Decimal.{places, decimal}
 
@@ -54,14 +53,6 @@ pub decimal_digits : (n k : ℕ) (bytes : List ℕ)
     → n < 100_000_000_000_000_000_000 → IsDigitCount 10 1 n k → bytes ≡ last_digits 10 k n → bytes ≡ decimal n
 unfolding decimal
 decimal_digits n k bytes h f e = e ∙ ap (λ (j : ℕ). last_digits 10 j n) (fewest 19 n k h f)
-
--- the same of what `put_bytes` puts
-pub put_decimal : (n k at : ℕ) (bytes run : List ℕ) (r : ℕ) (after : List ℕ)
-    → n < 100_000_000_000_000_000_000 → IsDigitCount 10 1 n k → bytes ≡ last_digits 10 k n → Puts at bytes run r after
-    → Puts at (decimal n) run r after × (r ≤ at + 20)
-put_decimal n k at bytes run r after h f e p =
-    let q : Puts at (decimal n) run r after = rw (← decimal_digits n k bytes h f e) p in
-    (q, put_few at 20 (decimal n) run r after (decimal_short n) q)
 
 -- 20 bytes are room for every number
 pub number_stored : (n at : ℕ) (run : List ℕ) (r : ℕ) (after : List ℕ)

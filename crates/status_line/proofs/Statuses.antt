@@ -1,31 +1,19 @@
 -- The two statuses, put together from their parts.
 use Prim.Native.Nat.{ℕ, ◌+◌, ◌≤◌}
-use native.Mathlib.Nat.{zero-add}
 use native.Mathlib.Omega.{arith}
 use borrow.Author.Tests.{eq-eqb, ne_eqb}
 use mathlib.Core.Path.{◌≡◌}
 use mathlib.Core.List.{List, ◌++◌}
 use lib.Dec.{eqb}
-use lib.ListN.{length, take, drop, length-append}
-use lib.Seq.{take-append_seam}
+use lib.ListN.{length, length-append}
 use Rattle.choice.proofs.Choices.{both_ways}
 use Rattle.filled.specs.Filled.{Stored}
 use Rattle.filled.proofs.Filling.{stored_both}
 use Rattle.text.specs.Text.{ascii}
 use Rattle.text.specs.Puts.{Puts}
-use Rattle.text.proofs.Putting.{put_few}
 use Rattle.status_line.specs.Decimal.{decimal}
 use Rattle.status_line.specs.Status.{line_end, status, below}
 use Rattle.status_line.proofs.Places.{decimal_short}
-
--- what was spelt at the front of a buffer, put at a place
-pub put_spelt : (new : List ℕ) (most n : ℕ) (buffer spelt : List ℕ) (at : ℕ) (run : List ℕ) (r : ℕ) (after : List ℕ)
-    → length new ≤ most → Stored 0 new buffer n spelt → Puts at (take n spelt) run r after
-    → Puts at new run r after × (r ≤ at + most)
-put_spelt new most n buffer spelt at run r after short s p =
-    let front : take n spelt ≡ new = rw (s.behind, s.stored, zero-add) (take-append_seam new (drop (length new) buffer)) in
-    let q : Puts at new run r after = rw front at p in
-    (q, put_few at most new run r after short q)
 
 module _ (number waiting offset : ℕ) where
   pub status_short : length (status number waiting offset) ≤ 52

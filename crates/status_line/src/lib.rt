@@ -7,31 +7,18 @@ ghost use Rattle.text.specs.Puts.{Puts};
 ghost use Rattle.status_line.specs.Decimal.{decimal};
 ghost use Rattle.status_line.specs.Status.{status, below};
 
-// Some bytes at a place where they fit. Answers the place behind them.
-fn copy(out: &mut [u8], at: usize, bytes: &[u8]) -> usize
-    requires { at + length bytes.now ≤ length out.old }
-    ensures { Stored at bytes.now out.old result out.new }
-{
-    let mut i = 0;
-    while i < bytes.len() {
-        out[at + i] = bytes[i];
-        i += 1;
-    }
-    at + i
+pub use text::put_bytes;
+
+// What was written of a log: so many bytes of text, and the number and the offset that stand in it.
+#[derive(Clone, Copy)]
+pub struct Printed {
+    pub bytes: usize,
+    pub number: u32,
+    pub offset: usize,
 }
 
-// Some bytes at a place; answers the place behind them. Where they don't fit, nothing is written, and the answer is the place itself.
-// So the others.
-pub fn put_bytes(out: &mut [u8], at: usize, bytes: &[u8]) -> usize
-    ensures { Puts at bytes.now out.old result out.new }
-{
-    if text::has_room(out.len(), at, bytes.len()) {
-        return copy(out, at, bytes);
-    }
-    at
-}
-
-// A number's digits.
+// A number's digits at a place, as `put_bytes`. So the others.
+#[tactic(auto, using(crate::proofs::Places::decimal_digits))]
 pub fn put_number(out: &mut [u8], at: usize, n: u64) -> usize
     ensures puts { Puts at (decimal n) out.old result out.new }
     ensures upper_bound { result ≤ at + 20 }

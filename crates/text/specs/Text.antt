@@ -1,13 +1,12 @@
 -- Document 01, section "Log": the line as the program prints it, marks as `<L>` and `<R>`, in UTF-8.
-use Rattle.std.specs.Prelude.{ℕ, Bool, List, [], ◌∷◌, ◌++◌, ◌≡◌, eqb, leb, length}
+use Rattle.std.specs.Prelude.{ℕ, Bool, List, [], ◌∷◌, ◌++◌, ◌≡◌, eqb, leb, length, Some, None}
+use Rattle.std.specs.Prelude as code
 use Prim.Native.Char.{code}
 use Prim.Native.String.{String, [] as end_of_text, ◌∷◌ as ◌followed_by◌}
 use Rattle.std.proofs.Math.Option.{Option, none, some}
 use Rattle.choice.specs.Choice.{if◌then◌orelse◌}
 use Rattle.filled.specs.Filled.{filled}
 use Rattle.text.specs.Utf8.{utf8}
-use Rattle.text.specs.declared.Encoded.{Encoded}
-use Rattle.text.specs.declared.Encoded.TheVariants.{Full, Bytes}
 
 -- the bytes of a text that has only signs below U+0080
 abbrev pub ascii : String → List ℕ
@@ -26,15 +25,15 @@ text [] = []
 text (w ∷ ws) = sign w ++ text ws
 
 -- what the answer of `encode` says: how many bytes were written, or that they did not fit
-abbrev pub count_of : Encoded → Option ℕ
-count_of Full = none
-count_of (Bytes n) = some n
+abbrev pub count_of : code.Option ℕ → Option ℕ
+count_of None = none
+count_of (Some n) = some n
 
 abbrev pub fits : List ℕ → List ℕ → Bool
 fits words run = leb (length (text words)) (length run)
 
 -- `encode` of words into a run: where the text fits, it stands at the run's front, and the rest is as it was; else the run is
 -- as it was.
-pub record Encodes (words run : List ℕ) (answer : Encoded) (after : List ℕ) : Type 0 where
+pub record Encodes (words run : List ℕ) (answer : code.Option ℕ) (after : List ℕ) : Type 0 where
   pub answered : count_of answer ≡ if fits words run then some (length (text words)) orelse none
   pub written : after ≡ if fits words run then filled (text words) run orelse run

@@ -11,20 +11,15 @@ use lib.ListN.{length, drop, get_or, length-append, length-drop, get_or-append, 
 use lib.Seq.{drop-cons, drop-length, get_or_at}
 use Rattle.choice.proofs.Choices.{by_test, either}
 use Rattle.writer.specs.Drills.{record_of}
+use Rattle.std.specs.Prelude.{Ok, Err}
 use Rattle.notation.specs.Transcribing as notation
-use Rattle.notation.specs.Transcribing.{line_end, longest_body, start, empty, step, Log, body_with, overlong, Transcript, log, wrong, taken}
-use Rattle.notation.specs.Transcribing.{from, transcribed}
+use Rattle.notation.specs.Transcribing.{width_of, tag_of, Step, line_end, longest_body, start, empty, step, Log, body_with, overlong}
+use Rattle.notation.specs.Transcribing.{Transcript, log, wrong, taken, from, transcribed}
 use Rattle.notation.specs.declared.Progress.{Progress}
 use Rattle.notation.specs.declared.Output.{Output}
 use Rattle.notation.specs.declared.Expected.{Expected}
-use Rattle.notation.specs.declared.Step.{Step}
-use Rattle.notation.specs.declared.Step.TheVariants as steps
-use Rattle.transcriber.specs.Sizes.{begin, with_output, by_step, advanced, Slow}
-use Rattle.transcriber.specs.Transcribes.{longest_text, measured, Within}
+use Rattle.transcriber.specs.Sizes.{begin, with_output, Advanced, beside, by_step, advanced, Slow}
 use Rattle.transcriber.specs.declared.state.State.{State}
-use Rattle.transcriber.specs.declared.state.Advanced.{Advanced}
-use Rattle.transcriber.specs.declared.state.Advanced.TheVariants.{Next, Wrong}
-use Rattle.transcriber.specs.declared.measuring.Measured.TheVariants as sizes
 use Rattle.transcriber.proofs.Sane.{idle, Sane, Keeps, step_keeps, Ends, line_ends}
 use Rattle.transcriber.proofs.Room.{body_long, record_long}
 
@@ -41,34 +36,35 @@ pub record Kept (l : Log) (b : ℕ) (rest : List ℕ) (t : Transcript) (s : Stat
   pub ends : b ≡ line_end → idle s.progress ≡ true
 
 abbrev pub Turned : Log → ℕ → List ℕ → Transcript → Advanced → Type 0
-Turned l b rest t (Wrong e) = t ≡ wrong (length rest) e
-Turned l b rest t (Next s o) = Kept l b rest t s o
+Turned l b rest t (Err e) = t ≡ wrong (length rest) e
+Turned l b rest t (Ok (s, o)) = Kept l b rest t s o
 
 module _ (l : Log) (records body : ℕ) (counts : Counts l records body) (b : ℕ) (rest : List ℕ) (t : Transcript) where
   output_turned : (p : Progress) (o : Output) → Sane p (notation.with_output l o) → (b ≡ line_end → idle p ≡ true)
-      → t ≡ taken (steps.Next p o) l (length rest) (λ q m. from q m rest) → Turned l b rest t (with_output p records body o)
+      → t ≡ taken (Ok (p, o)) l (length rest) (λ q m. from q m rest)
+      → Turned l b rest t (beside o (with_output (record { progress = p; records = records; body = body }) o))
   output_turned p o sane ends e =
-      let long : body + o.width ≡ length (body_with l o) = omega (arith, body_long l o, counts.body_is) in
-      let in_time : eqb o.tag 0 ≡ true → overlong l o ≡ false = λ z. rw z in
-      let too_late : eqb o.tag 0 ≡ false → ltb longest_body (body + o.width) ≡ true → overlong l o ≡ true =
+      let long : body + (width_of o) ≡ length (body_with l o) = omega (arith, body_long l o, counts.body_is) in
+      let in_time : eqb (tag_of o) 0 ≡ true → overlong l o ≡ false = λ z. rw z in
+      let too_late : eqb (tag_of o) 0 ≡ false → ltb longest_body (body + (width_of o)) ≡ true → overlong l o ≡ true =
       λ w over. rw (w, ← long) over in
-      let short-enough : eqb o.tag 0 ≡ false → ltb longest_body (body + o.width) ≡ false → overlong l o ≡ false =
+      let short-enough : eqb (tag_of o) 0 ≡ false → ltb longest_body (body + (width_of o)) ≡ false → overlong l o ≡ false =
       λ w fits. rw (w, ← long) fits in
-      by_test (Turned l b rest t) (eqb o.tag 0)
+      by_test (λ r. Turned l b rest t (beside o r)) (eqb (tag_of o) 0)
       (λ z. record {
         counts = rw z (record { records_are = counts.records_are; body_is = long });
         left = rw (in_time z) at e;
         sane = sane;
         ends = ends;
       })
-      (λ w. by_test (Turned l b rest t) (ltb longest_body (body + o.width))
+      (λ w. by_test (λ r. Turned l b rest t (beside o r)) (ltb longest_body (body + (width_of o)))
       (λ over. rw (too_late w over) at e)
       (λ fits. record {
         counts = rw w (record {
           records_are = omega (
             arith,
-            length-append l.records (record_of o.tag (body_with l o)),
-            record_long o.tag (body_with l o),
+            length-append l.records (record_of (tag_of o) (body_with l o)),
+            record_long (tag_of o) (body_with l o),
             long,
             counts.records_are,
           );
@@ -81,8 +77,8 @@ module _ (l : Log) (records body : ℕ) (counts : Counts l records body) (b : �
 
   step_turned : (st : Step) → Keeps l st → (b ≡ line_end → Ends st) → t ≡ taken st l (length rest) (λ q m. from q m rest)
       → Turned l b rest t (by_step records body st)
-  step_turned (steps.Wrong e) k ends is = is
-  step_turned (steps.Next p o) k ends is = output_turned p o k ends is
+  step_turned (Err e) k ends is = is
+  step_turned (Ok (p, o)) k ends is = output_turned p o k ends is
 
 -- the text with the line end that its end counts as
 abbrev pub all_of : List ℕ → List ℕ
@@ -139,20 +135,19 @@ module _ (text : List ℕ) (s : State) (i : ℕ) (l : Log) (at : At text s i l) 
       (rw next at at.left)
 
   -- the text is wrong here
-  pub stops : (a : Advanced) (e : Expected) → a ≡ advanced s b → a ≡ Wrong e → transcribed text ≡ wrong (length text - i) e
+  pub stops : (a : Advanced) (e : Expected) → a ≡ advanced s b → a ≡ Err e → transcribed text ≡ wrong (length text - i) e
   stops a e p q = rw (sym p ∙ q) at turned ∙ rw rest_long
 
   -- or it goes on
-  pub goes_on : (a : Advanced) (next : State) (o : Output) → a ≡ advanced s b → a ≡ Next next o → Slow (s.records + s.body) a
+  pub goes_on : (a : Advanced) (next : State) (o : Output) → a ≡ advanced s b → a ≡ Ok (next, o) → Slow (s.records + s.body) next
       → At text next (i + 1) (notation.with_output l o)
   goes_on a next o p q slow =
       let k : Kept l b rest (transcribed text) next o = rw (sym p ∙ q) at turned in
-      let few : next.records + next.body ≤ s.records + s.body + 258 = rw q at slow in
       record {
         counts = k.counts;
         left = rw (add-one i) k.left;
         sane = k.sane;
-        small = omega (arith, few, at.small);
+        small = omega (arith, slow, at.small);
         inside = omega arith;
         past = λ h. k.ends (is ∙ get_or-eq_default text line_end {n = i} (omega arith));
       }
@@ -163,35 +158,3 @@ unfolding from
 ended text s i l at h =
     let e : i ≡ length (all_of text) = omega (arith, at.inside, all_long text) in
     at.left ∙ rw (e, drop-length (all_of text))
-
--- For `measure`: some log so far.
-pub record Measuring (text : List ℕ) (s : State) (i : ℕ) : Type 0 where
-  pub log_so_far : Log
-  pub here : At text s i log_so_far
-
-module _ (text : List ℕ) (short : length text ≤ longest_text) where
-  pub measuring_begins : (s : State) → s ≡ begin → Measuring text s 0
-  measuring_begins s e = rw e (record { log_so_far = empty; here = at_begin text })
-
-  module _ (s : State) (i : ℕ) (m : Measuring text s i) where
-    pub sizes_small : s.records + s.body ≤ 4611686018427387904
-    sizes_small = omega (arith, m.here.small, m.here.inside, short)
-
-    module _ (more : i ≤ length text) (b : ℕ) (is : b ≡ get_or text i line_end) (a : Advanced) (p : a ≡ advanced s b) where
-      pub wrong_measured : (e : Expected) → a ≡ Wrong e
-          → (sizes.Wrong i e ≡ measured (length text) (transcribed text)) × Within (length text) (sizes.Wrong i e)
-      wrong_measured e q =
-          let back : length text - (length text - i) ≡ i = omega arith in
-          (rw (stops text s i m.log_so_far m.here more b is a e p q, back), more)
-
-      pub measuring_on : (next : State) (o : Output) → a ≡ Next next o → Slow (s.records + s.body) a → Measuring text next (i + 1)
-      measuring_on next o q slow =
-          record {
-            log_so_far = notation.with_output m.log_so_far o;
-            here = goes_on text s i m.log_so_far
-                m.here more b is a next o p q slow;
-          }
-
-    pub measured_all : length text < i
-        → (sizes.Size s.records ≡ measured (length text) (transcribed text)) × Within (length text) (sizes.Size s.records)
-    measured_all h = (rw (ended text s i m.log_so_far m.here h, m.here.counts.records_are), tt)

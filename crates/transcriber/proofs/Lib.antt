@@ -1,12 +1,5 @@
-pub mod Growing
-pub mod Outside
-pub mod Past
-pub mod Advancing
+pub mod Widening
 pub mod Sane
 pub mod Room
 pub mod Going
-pub mod Placing
-pub mod Widening
-pub mod Putting
 pub mod Laying
-pub mod Answers

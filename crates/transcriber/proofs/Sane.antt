@@ -1,24 +1,23 @@
 -- Between two entries no record is begun; a text ends there. So what is written never goes past the log that the text gives.
 use Prim.Native.Nat.{ℕ, ◌+◌, ◌*◌}
-use mathlib.Core.Bool.{Bool, true, false, ◌||◌, false≢true}
+use mathlib.Core.Bool.{Bool, true, false, false≢true}
 use mathlib.Core.List.{[]}
 use mathlib.Core.Path.{◌≡◌, refl, sym, ap, ◌∙◌}
 use lib.Dec.{eqb, ltb, leb}
 use lib.ListN.{length}
 use Rattle.choice.specs.Choice.{if◌then◌orelse◌}
-use Rattle.choice.proofs.Choices.{both_ways, by_test}
+use Rattle.choice.proofs.Choices.{both_ways}
+use Rattle.std.specs.Prelude.{Some, None, Ok, Err}
 use Rattle.notation.specs.Transcribing.{no_signs, is_blank, ends_entry, begins_comment, packed, base, most}
-use Rattle.notation.specs.Transcribing.{takes_letters, digit_value}
-use Rattle.notation.specs.Transcribing.{following, between, begun, whole, ended, at_digit, at_sign, entry_step, step}
+use Rattle.notation.specs.Transcribing.{field_of, number_read, is_growing, signs_behind, takes_letters, digit_value}
+use Rattle.notation.specs.Transcribing.{Follow, Step, following, between, reading, behind, begun, whole, ended, at_digit, at_sign}
+use Rattle.notation.specs.Transcribing.{entry_step, step}
 use Rattle.notation.specs.Transcribing.{Log, with_output}
 use Rattle.notation.proofs.Passing.{no_digit_10}
 use Rattle.notation.specs.declared.Field.{Field}
 use Rattle.notation.specs.declared.Field.TheVariants.{Start, T, J, L, Solo, Key, Stamp, Ts, N, First, Second, Character}
 use Rattle.notation.specs.declared.Progress.{Progress}
-use Rattle.notation.specs.declared.Follow.{Follow}
-use Rattle.notation.specs.declared.Follow.TheVariants.{Reads, Unfit}
-use Rattle.notation.specs.declared.Step.{Step}
-use Rattle.notation.specs.declared.Step.TheVariants.{Next, Wrong}
+use Rattle.notation.specs.declared.Progress.TheVariants.{Comment, Reading, Behind}
 
 abbrev pub is_start : Field → Bool
 is_start Start = true
@@ -36,24 +35,20 @@ is_start Character = false
 
 -- nothing of an entry was read
 abbrev pub idle : Progress → Bool
-idle p = p.comment || is_start p.field
+idle p = is_start (field_of p)
 
 pub record Sane (p : Progress) (l : Log) : Type 0 where
   pub no_body : idle p ≡ true → l.body ≡ []
 
 -- the steps that keep it
 abbrev pub Keeps : Log → Step → Type 0
-Keeps l (Wrong e) = Unit {0}
-Keeps l (Next q o) = Sane q (with_output l o)
-
-or_second : (a b : Bool) → b ≡ true → (a || b) ≡ true
-or_second true b e = refl
-or_second false b e = e
+Keeps l (Err e) = Unit {0}
+Keeps l (Ok (q, o)) = Sane q (with_output l o)
 
 -- no signs announce the start of an entry
 abbrev Announces : Follow → Type 0
-Announces (Reads g o) = is_start g ≡ false
-Announces Unfit = Unit {0}
+Announces (Some (g, o)) = is_start g ≡ false
+Announces None = Unit {0}
 
 announces : (f : Field) (n s : ℕ) → Announces (following f n s)
 unfolding following
@@ -81,26 +76,22 @@ announces Character n s = both_ways Announces (eqb s (packed "")) refl tt
 
 module _ (l : Log) where
   module _ (p : Progress) (sane : Sane p l) where
-    -- the same entry goes on
-    same_entry : (n s : ℕ) (growing : Bool)
-        → Sane (record { field = p.field; number = n; growing = growing; signs = s; comment = false }) l
-    same_entry n s growing =
-        record { no_body = λ e. sane.no_body (or_second p.comment (is_start p.field) e) }
-
-    begun_keeps : (d : ℕ) (f : Follow) → Announces f → Keeps l (begun p.field d f)
-    begun_keeps d (Reads g o) a = record { no_body = λ e. absurd (false≢true (sym a ∙ e)) }
-    begun_keeps d Unfit a = tt
+    begun_keeps : (d : ℕ) (f : Follow) → Announces f → Keeps l (begun (field_of p) d f)
+    begun_keeps d (Some (g, o)) a = record { no_body = λ e. absurd (false≢true (sym a ∙ e)) }
+    begun_keeps d None a = tt
 
     digit_keeps : (d : ℕ) → Keeps l (at_digit p d)
     unfolding at_digit
     digit_keeps d =
-        both_ways (Keeps l) p.growing
-        (both_ways (Keeps l) (leb (p.number * base p.field + d) (most p.field)) (same_entry _ no_signs true) tt)
-        (begun_keeps d (following p.field p.number p.signs) (announces p.field p.number p.signs))
+        both_ways (Keeps l) (is_growing p)
+        (both_ways (Keeps l) (leb (number_read p * base (field_of p) + d) (most (field_of p))) (record { no_body = sane.no_body }) tt)
+        (begun_keeps d (following (field_of p) (number_read p) (signs_behind p)) (announces (field_of p) (number_read p) (signs_behind p)))
 
-    whole_keeps : (f : Field) → p.field ≡ f → (n : ℕ) (comment : Bool) → Keeps l (whole f n (between comment))
-    whole_keeps Start e n comment =
-        record { no_body = λ _. sane.no_body (or_second p.comment (is_start p.field) (ap is_start e)) }
+    between_idle : (comment : Bool) → l.body ≡ [] → Sane (between comment) l
+    between_idle comment e = record { no_body = λ _. e }
+
+    whole_keeps : (f : Field) → field_of p ≡ f → (n : ℕ) (comment : Bool) → Keeps l (whole f n (between comment))
+    whole_keeps Start e n comment = between_idle comment (sane.no_body (ap is_start e))
     whole_keeps T e n comment = tt
     whole_keeps J e n comment = tt
     whole_keeps L e n comment = tt
@@ -116,17 +107,20 @@ module _ (l : Log) where
     sign_keeps : (b : ℕ) → Keeps l (at_sign p b)
     unfolding at_sign ended
     sign_keeps b =
-        both_ways (Keeps l) (is_blank b) (same_entry _ _ false)
+        both_ways (Keeps l) (is_blank b) (record { no_body = sane.no_body })
         (both_ways (Keeps l) (ends_entry b)
-        (both_ways (Keeps l) (eqb p.signs no_signs) (whole_keeps p.field refl p.number (begins_comment b)) tt)
-        (same_entry _ _ false))
+        (both_ways (Keeps l) (eqb (signs_behind p) no_signs) (whole_keeps (field_of p) refl (number_read p) (begins_comment b)) tt)
+        (record { no_body = sane.no_body }))
 
-    pub step_keeps : (b : ℕ) → Keeps l (step p b)
-    unfolding step entry_step
-    step_keeps b =
-        by_test (Keeps l) p.comment
-        (λ t. record { no_body = λ _. sane.no_body (rw t) })
-        (λ _. both_ways (Keeps l) (ltb (digit_value (takes_letters p) b) 16) (digit_keeps _) (sign_keeps b))
+    entry_keeps : (b : ℕ) → Keeps l (entry_step p b)
+    unfolding entry_step
+    entry_keeps b = both_ways (Keeps l) (ltb (digit_value (takes_letters p) b) 16) (digit_keeps _) (sign_keeps b)
+
+  pub step_keeps : (p : Progress) → Sane p l → (b : ℕ) → Keeps l (step p b)
+  unfolding step
+  step_keeps Comment sane b = record { no_body = λ _. sane.no_body refl }
+  step_keeps (Reading f n) sane b = entry_keeps (reading f n) sane b
+  step_keeps (Behind f n s) sane b = entry_keeps (behind f n s) sane b
 
   -- how far the log has been written: a begun record has room for its header
   abbrev pub used : ℕ
@@ -134,8 +128,8 @@ module _ (l : Log) where
 
 -- a line end leads between two entries
 abbrev pub Ends : Step → Type 0
-Ends (Wrong e) = Unit {0}
-Ends (Next q o) = idle q ≡ true
+Ends (Err e) = Unit {0}
+Ends (Ok (q, o)) = idle q ≡ true
 
 whole_ends : (f : Field) (n : ℕ) → Ends (whole f n (between false))
 whole_ends Start n = refl
@@ -151,8 +145,14 @@ whole_ends First n = tt
 whole_ends Second n = tt
 whole_ends Character n = refl
 
+entry_ends : (p : Progress) → Ends (entry_step p 10)
+unfolding entry_step at_sign ended is_blank ends_entry
+entry_ends p =
+    rw (no_digit_10 (takes_letters p))
+    (both_ways Ends (eqb (signs_behind p) no_signs) (whole_ends (field_of p) (number_read p)) tt)
+
 pub line_ends : (p : Progress) → Ends (step p 10)
-unfolding step entry_step at_sign ended is_blank ends_entry
-line_ends p =
-    both_ways Ends p.comment refl
-    (rw (no_digit_10 (takes_letters p)) (both_ways Ends (eqb p.signs no_signs) (whole_ends p.field p.number) tt))
+unfolding step
+line_ends Comment = refl
+line_ends (Reading f n) = entry_ends (reading f n)
+line_ends (Behind f n s) = entry_ends (behind f n s)

@@ -17,28 +17,26 @@ fn moved(place: Place, b: u8) -> Place
     ensures line_bound_2 { result.line ≤ place.line + 1 }
     ensures column_bound_2 { result.column ≤ place.column + 1 }
 {
-    if b == 10 {
+    if b == b'\n' {
         return Place {
             line: place.line + 1,
             column: 1,
         };
     }
     Place {
-        line: place.line,
         column: place.column + 1,
+        ..place
     }
 }
 
 // The place behind a text: that of the next byte.
+#[tactic(auto, unfolding(crate::specs::Places::behind))]
 pub fn place_behind(text: &[u8]) -> Place
     ensures { result ≡ places.behind text.now }
 {
     let mut place = Place { line: 1, column: 1 };
-    let mut i = 0;
-    while i < text.len() {
-        let next = moved(place, text[i]);
-        place = next;
-        i += 1;
+    for b in text {
+        place = moved(place, *b);
     }
     place
 }

@@ -1,10 +1,10 @@
 // A transcriber, and how many bytes of the log there are so far.
-ghost use Rattle.std.specs.Prelude.{◌+◌, ◌≤◌, ◌≡◌, get_or};
-ghost use Rattle.notation.specs.Transcribing.{line_end};
+ghost use Rattle.std.specs.Prelude.{◌+◌, ◌≡◌, IfOk};
 ghost use Rattle.transcriber.specs.Sizes as sizes;
 
 use crate::steps::{start, step};
-use notation::{Expected, Output, Progress, Step};
+use keylog::HEADER_SIZE;
+use notation::{Expected, Output, Progress};
 
 // The bytes of whole records, and those of the body of the record that is not whole.
 #[derive(Clone, Copy)]
@@ -14,68 +14,55 @@ pub struct State {
     pub body: usize,
 }
 
-// One byte of the text.
-#[derive(Clone, Copy)]
-pub enum Advanced {
-    Next(State, Output),
-    Wrong(Expected),
-}
-
 // A body's length is told in two bytes.
-const LONGEST_BODY: usize = 65535;
+const LONGEST_BODY: usize = u16::MAX as usize;
 
-pub fn begin() -> State
-    ensures { result ≡ sizes.begin }
-{
-    let progress = start();
-    State {
-        progress: progress,
-        records: 0,
-        body: 0,
+impl State {
+    pub fn begin() -> State
+        ensures { result ≡ sizes.begin }
+    {
+        State {
+            progress: start(),
+            records: 0,
+            body: 0,
+        }
     }
-}
 
-// The byte at a place: the end counts as a line end.
-pub fn byte_at(text: &[u8], at: usize) -> u8
-    ensures { result ≡ get_or text.now at line_end }
-{
-    if at < text.len() { text[at] } else { 10 }
-}
-
-// The sizes with what a byte adds.
-fn with_output(progress: Progress, records: usize, body: usize, output: Output) -> Advanced
-    requires { records + body ≤ 4611686018427387904 }
-    ensures value { result ≡ sizes.with_output progress records body output }
-    ensures slow { sizes.Slow (records + body) result }
-{
-    let longer = body + output.width as usize;
-    if output.tag == 0 {
-        let state = State {
-            progress: progress,
-            records: records,
-            body: longer,
-        };
-        return Advanced::Next(state, output);
+    // The sizes with what a byte adds.
+    fn with_output(self, output: Output) -> Result<State, Expected>
+        requires { sizes.Small self }
+        ensures value { result ≡ sizes.with_output self output }
+        ensures slow { IfOk result (sizes.Slow (self.records + self.body)) }
+    {
+        match output {
+            Output::Nothing => Ok(self),
+            Output::Push(number) => Ok(State {
+                body: self.body + number.width as usize,
+                ..self
+            }),
+            Output::Last(_, number) => {
+                let body = self.body + number.width as usize;
+                if LONGEST_BODY < body {
+                    return Err(Expected::FewerPairs);
+                }
+                Ok(State {
+                    records: self.records + HEADER_SIZE + body,
+                    body: 0,
+                    ..self
+                })
+            }
+        }
     }
-    if LONGEST_BODY < longer {
-        return Advanced::Wrong(Expected::FewerPairs);
-    }
-    let state = State {
-        progress: progress,
-        records: records + 3 + longer,
-        body: 0,
-    };
-    Advanced::Next(state, output)
-}
 
-pub fn advance(state: State, b: u8) -> Advanced
-    requires { state.records + state.body ≤ 4611686018427387904 }
-    ensures value { result ≡ sizes.advanced state b }
-    ensures slow { sizes.Slow (state.records + state.body) result }
-{
-    let progress = state.progress;
-    match step(progress, b) {
-        Step::Wrong(expected) => Advanced::Wrong(expected),
-        Step::Next(next, output) => with_output(next, state.records, state.body, output),
+    // One byte of the text.
+    #[tactic(auto, unfolding(crate::specs::Sizes::advanced))]
+    pub fn advance(self, b: u8) -> Result<(State, Output), Expected>
+        requires { sizes.Small self }
+        ensures value { result ≡ sizes.advanced self b }
+        ensures slow { IfOk result (λ r. sizes.Slow (self.records + self.body) r.0) }
+    {
+        let (progress, output) = step(self.progress, b)?;
+        let state = State { progress, ..self }.with_output(output)?;
+        Ok((state, output))
     }
 }

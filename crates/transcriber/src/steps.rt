@@ -1,14 +1,13 @@
 // One byte of a text.
-ghost use Rattle.std.specs.Prelude.{◌<◌, ◌≡◌, eqb};
-ghost use Rattle.choice.specs.Choice.{if◌then◌orelse◌};
+ghost use Rattle.std.specs.Prelude.{◌<◌, ◌≡◌};
+ghost use Rattle.rules.specs.Refusal.{kind_number};
 ghost use Rattle.notation.specs.Transcribing as notation;
-ghost use Rattle.notation.specs.declared.Field.TheVariants.{Stamp};
-ghost use Rattle.notation.specs.declared.Follow.TheVariants.{Reads};
 
 use crate::signs::{digit_value, ends_entry, is_blank, with_sign};
-use notation::{Expected, Field, Follow, Output, Progress, Step};
+use notation::{Expected, Field, Follow, Number, Output, Progress, Step, Tag};
+use rules::Kind;
 
-// Signs as one number: a 1, then their bytes.
+// Signs as one number, a 1 and then their bytes: they fit one, and are compared as one.
 const NO_SIGNS: u64 = 1;
 // `T=`
 const BEFORE_T: u64 = 0x1_543d;
@@ -43,139 +42,93 @@ const BEFORE_SECOND: u64 = 0x12b;
 // `=U+`
 const BEFORE_CODE_POINT: u64 = 0x13d_552b;
 
-// How a field's number is written: the largest that its bytes hold, and whether its digits are hexadecimal.
-#[derive(Clone, Copy)]
-struct Numeral(u64, bool);
-
-// A pair's character is its code point in hexadecimal digits, every other number is decimal.
-fn written(field: Field) -> Numeral
-    ensures { (result.0 ≡ notation.most field) × (result.1 ≡ notation.is_code_point field) }
+// The largest number that a field's bytes hold.
+fn most(field: Field) -> u64
+    ensures { result ≡ notation.most field }
 {
     match field {
-        Field::Start => Numeral(0, false),
-        Field::T => Numeral(65535, false),
-        Field::J => Numeral(255, false),
-        Field::L => Numeral(255, false),
-        Field::Solo => Numeral(255, false),
-        Field::Key => Numeral(255, false),
-        Field::Stamp => Numeral(18446744073709551615, false),
-        Field::Ts => Numeral(65535, false),
-        Field::N => Numeral(255, false),
-        Field::First => Numeral(255, false),
-        Field::Second => Numeral(255, false),
-        Field::Character => Numeral(65535, true),
+        Field::Start => 0,
+        Field::T => 65535,
+        Field::J | Field::L | Field::Solo => 255,
+        Field::Key => 255,
+        Field::Stamp => u64::MAX,
+        Field::Ts => 65535,
+        Field::N | Field::First | Field::Second => 255,
+        Field::Character => 65535,
     }
+}
+
+// A pair's character is its code point in hexadecimal digits, every other number is decimal.
+fn is_code_point(field: Field) -> bool
+    ensures { result ≡ notation.is_code_point field }
+{
+    field == Field::Character
 }
 
 fn base(field: Field) -> u64
     ensures value { result ≡ notation.base field }
     ensures result_nonzero { 0 < result }
 {
-    let n = written(field);
-    if n.1 { 16 } else { 10 }
+    if is_code_point(field) { 16 } else { 10 }
 }
 
-fn takes_letters(p: Progress) -> bool
-    ensures { result ≡ notation.takes_letters p }
-{
-    if p.growing {
-        let field = p.field;
-        let n = written(field);
-        return n.1;
-    }
-    p.signs == BEFORE_CODE_POINT
-}
-
-// What a byte adds to the log: nothing, a number in so many bytes, the last number of a record, or an event's kind and key.
-fn nothing() -> Output
-    ensures { result ≡ notation.nothing }
-{
-    Output {
-        width: 0,
-        value: 0,
-        tag: 0,
-    }
-}
-
+// What a byte adds to the log: a number in so many bytes, the last number of a record, or an event's kind and key.
 fn push(width: u8, value: u64) -> Output
     ensures { result ≡ notation.push width value }
 {
-    Output {
-        width: width,
-        value: value,
-        tag: 0,
-    }
+    Output::Push(Number { width, value })
 }
 
-fn last(tag: u8, width: u8, value: u64) -> Output
+fn last(tag: Tag, width: u8, value: u64) -> Output
     ensures { result ≡ notation.last tag width value }
 {
-    Output {
-        width: width,
-        value: value,
-        tag: tag,
-    }
+    Output::Last(tag, Number { width, value })
 }
 
-fn kind_and_key(kind: u8, key: u64) -> Output
-    ensures { result ≡ notation.kind_and_key kind key }
+fn kind_and_key(kind: Kind, key: u64) -> Output
+    ensures { result ≡ notation.kind_and_key (kind_number kind) key }
 {
     push(2, kind as u64 * 256 + key % 256)
 }
 
-// Signs that may stand, with the field that they announce and what is known of the record by then.
-fn one_of(signs: u64, expected: u64, field: Field, output: Output, otherwise: Follow) -> Follow
-    ensures { result ≡ if eqb signs expected then Reads field output orelse otherwise }
-{
-    if signs == expected {
-        return Follow::Reads(field, output);
-    }
-    otherwise
-}
-
-// A stamp behind signs that tell the kind and the key.
-fn stamp(signs: u64, expected: u64, kind: u8, key: u64, otherwise: Follow) -> Follow
-    ensures { result ≡ if eqb signs expected then Reads Stamp (notation.kind_and_key kind key) orelse otherwise }
-{
-    one_of(
-        signs,
-        expected,
-        Field::Stamp,
-        kind_and_key(kind, key),
-        otherwise,
-    )
-}
-
-// What an entry begins with, from the last choice to the first.
+// What an entry begins with.
 fn beginning(signs: u64) -> Follow
     ensures { result ≡ notation.beginning signs }
 {
-    let tick = stamp(signs, TICK, 6, 0, Follow::Unfit);
-    let function = stamp(signs, FUNCTION, 5, 0, tick);
-    let right_up = stamp(signs, RIGHT_UP, 4, 1, function);
-    let left_up = stamp(signs, LEFT_UP, 4, 0, right_up);
-    let right_down = stamp(signs, RIGHT_DOWN, 3, 1, left_up);
-    let left_down = stamp(signs, LEFT_DOWN, 3, 0, right_down);
-    let list = one_of(signs, BEFORE_TS, Field::Ts, nothing(), left_down);
-    let settings = one_of(signs, BEFORE_T, Field::T, nothing(), list);
-    one_of(signs, NO_SIGNS, Field::Key, nothing(), settings)
+    match signs {
+        NO_SIGNS => Some((Field::Key, Output::Nothing)),
+        BEFORE_T => Some((Field::T, Output::Nothing)),
+        BEFORE_TS => Some((Field::Ts, Output::Nothing)),
+        LEFT_DOWN => Some((Field::Stamp, kind_and_key(Kind::ThumbDown, 0))),
+        RIGHT_DOWN => Some((Field::Stamp, kind_and_key(Kind::ThumbDown, 1))),
+        LEFT_UP => Some((Field::Stamp, kind_and_key(Kind::ThumbUp, 0))),
+        RIGHT_UP => Some((Field::Stamp, kind_and_key(Kind::ThumbUp, 1))),
+        FUNCTION => Some((Field::Stamp, kind_and_key(Kind::FunctionDown, 0))),
+        TICK => Some((Field::Stamp, kind_and_key(Kind::Tick, 0))),
+        _ => None,
+    }
 }
 
 // A field that only these signs announce.
 fn only(signs: u64, expected: u64, field: Field, width: u8, number: u64) -> Follow
     ensures { result ≡ notation.only signs expected field width number }
 {
-    one_of(signs, expected, field, push(width, number), Follow::Unfit)
+    (signs == expected).then_some((field, push(width, number)))
 }
 
 // A stamp behind a character key.
 fn stroke(key: u64, signs: u64) -> Follow
     ensures { result ≡ notation.stroke key signs }
 {
-    stamp(signs, DOWN, 1, key, stamp(signs, UP, 2, key, Follow::Unfit))
+    match signs {
+        DOWN => Some((Field::Stamp, kind_and_key(Kind::CharacterDown, key))),
+        UP => Some((Field::Stamp, kind_and_key(Kind::CharacterUp, key))),
+        _ => None,
+    }
 }
 
-// The field that signs announce, behind a field and its number.
+// The field that signs announce, behind a field and its number, with what is known of the record by then.
+#[tactic(auto, unfolding(notation::specs::Transcribing::following))]
 fn following(field: Field, number: u64, signs: u64) -> Follow
     ensures { result ≡ notation.following field number signs }
 {
@@ -184,27 +137,24 @@ fn following(field: Field, number: u64, signs: u64) -> Follow
         Field::T => only(signs, BEFORE_J, Field::J, 2, number),
         Field::J => only(signs, BEFORE_L, Field::L, 1, number),
         Field::L => only(signs, BEFORE_SOLO, Field::Solo, 1, number),
-        Field::Solo => Follow::Unfit,
         Field::Key => stroke(number, signs),
-        Field::Stamp => Follow::Unfit,
         Field::Ts => only(signs, BEFORE_N, Field::N, 2, number),
         Field::N => only(signs, NO_SIGNS, Field::First, 1, number),
         Field::First => only(signs, BEFORE_SECOND, Field::Second, 1, number),
         Field::Second => only(signs, BEFORE_CODE_POINT, Field::Character, 1, number),
         Field::Character => only(signs, NO_SIGNS, Field::First, 2, number),
+        Field::Solo | Field::Stamp => None,
     }
 }
 
-// Where a transcriber is: between two entries, in a comment, behind digits, or behind signs.
+// In a comment, or between two entries.
 fn between(comment: bool) -> Progress
     ensures { result ≡ notation.between comment }
 {
-    Progress {
-        field: Field::Start,
-        number: 0,
-        growing: false,
-        signs: NO_SIGNS,
-        comment: comment,
+    if comment {
+        Progress::Comment
+    } else {
+        Progress::Behind(Field::Start, 0, NO_SIGNS)
     }
 }
 
@@ -214,65 +164,24 @@ pub fn start() -> Progress
     between(false)
 }
 
-fn reading(field: Field, number: u64) -> Progress
-    ensures { result ≡ notation.reading field number }
-{
-    Progress {
-        field: field,
-        number: number,
-        growing: true,
-        signs: NO_SIGNS,
-        comment: false,
-    }
-}
-
-fn behind(p: Progress, signs: u64) -> Progress
-    ensures { result ≡ notation.behind p.field p.number signs }
-{
-    let field = p.field;
-    Progress {
-        field: field,
-        number: p.number,
-        growing: false,
-        signs: signs,
-        comment: false,
-    }
-}
-
 // One digit more.
-fn grown(field: Field, number: u64, digit: u8) -> Step
+fn grown(field: Field, number: u64, digit: u32) -> Step
     ensures { result ≡ notation.grown field number digit }
 {
-    let n = written(field);
-    let limit = n.0;
-    let tens = base(field);
-    if limit < digit as u64 {
-        return Step::Wrong(Expected::AtMost(limit));
+    let most = most(field);
+    let grown = number as u128 * base(field) as u128 + digit as u128;
+    if grown > most as u128 {
+        return Err(Expected::AtMost(most));
     }
-    if (limit - digit as u64) / tens < number {
-        return Step::Wrong(Expected::AtMost(limit));
-    }
-    Step::Next(reading(field, number * tens + digit as u64), nothing())
+    Ok((Progress::Reading(field, grown as u64), Output::Nothing))
 }
 
 // The first digit of the number that signs announce.
-fn begun(field: Field, digit: u8, follow: Follow) -> Step
+fn begun(field: Field, digit: u32, follow: Follow) -> Step
     ensures { result ≡ notation.begun field digit follow }
 {
-    match follow {
-        Follow::Reads(next, output) => Step::Next(reading(next, digit as u64), output),
-        Follow::Unfit => Step::Wrong(Expected::After(field)),
-    }
-}
-
-fn at_digit(p: Progress, digit: u8) -> Step
-    ensures { result ≡ notation.at_digit p digit }
-{
-    let field = p.field;
-    if p.growing {
-        return grown(field, p.number, digit);
-    }
-    begun(field, digit, following(field, p.number, p.signs))
+    let (next, output) = follow.ok_or(Expected::After(field))?;
+    Ok((Progress::Reading(next, digit as u64), output))
 }
 
 // The end of an entry behind a field: its record is whole, or more was expected.
@@ -280,58 +189,55 @@ fn whole(field: Field, number: u64, next: Progress) -> Step
     ensures { result ≡ notation.whole field number next }
 {
     match field {
-        Field::Start => Step::Next(next, nothing()),
-        Field::T => Step::Wrong(Expected::After(Field::T)),
-        Field::J => Step::Wrong(Expected::After(Field::J)),
-        Field::L => Step::Wrong(Expected::After(Field::L)),
-        Field::Solo => Step::Next(next, last(1, 1, number)),
-        Field::Key => Step::Wrong(Expected::After(Field::Key)),
-        Field::Stamp => Step::Next(next, last(2, 8, number)),
-        Field::Ts => Step::Wrong(Expected::After(Field::Ts)),
-        Field::N => Step::Next(next, last(3, 1, number)),
-        Field::First => Step::Wrong(Expected::After(Field::First)),
-        Field::Second => Step::Wrong(Expected::After(Field::Second)),
-        Field::Character => Step::Next(next, last(3, 2, number)),
+        Field::Start => Ok((next, Output::Nothing)),
+        Field::Solo => Ok((next, last(Tag::Settings, 1, number))),
+        Field::Stamp => Ok((next, last(Tag::Event, 8, number))),
+        Field::N => Ok((next, last(Tag::List, 1, number))),
+        Field::Character => Ok((next, last(Tag::List, 2, number))),
+        _ => Err(Expected::After(field)),
     }
 }
 
-fn ended(p: Progress, next: Progress) -> Step
-    ensures { result ≡ notation.ended p.field p.number p.signs next }
+#[tactic(auto, unfolding(notation::specs::Transcribing::ended))]
+fn ended(field: Field, number: u64, signs: u64, next: Progress) -> Step
+    ensures { result ≡ notation.ended field number signs next }
 {
-    let field = p.field;
-    if p.signs == NO_SIGNS {
-        return whole(field, p.number, next);
+    if signs == NO_SIGNS {
+        whole(field, number, next)
+    } else {
+        Err(Expected::After(field))
     }
-    Step::Wrong(Expected::After(field))
 }
 
-fn at_sign(p: Progress, b: u8) -> Step
-    ensures { result ≡ notation.at_sign p b }
+// A byte that is no digit, behind a field, its number and signs.
+#[tactic(auto, unfolding(notation::specs::Transcribing::at_sign))]
+fn at_sign(field: Field, number: u64, signs: u64, b: u8) -> Step
+    ensures { result ≡ notation.at_sign (notation.behind field number signs) b }
 {
     if is_blank(b) {
-        return Step::Next(behind(p, p.signs), nothing());
+        return Ok((Progress::Behind(field, number, signs), Output::Nothing));
     }
     if ends_entry(b) {
-        return ended(p, between(b == b'#'));
+        return ended(field, number, signs, between(b == b'#'));
     }
-    Step::Next(behind(p, with_sign(p.signs, b)), nothing())
+    Ok((
+        Progress::Behind(field, number, with_sign(signs, b)),
+        Output::Nothing,
+    ))
 }
 
-fn entry_step(p: Progress, b: u8) -> Step
-    ensures { result ≡ notation.entry_step p b }
+pub fn step(progress: Progress, b: u8) -> Step
+    ensures { result ≡ notation.step progress b }
 {
-    let digit = digit_value(takes_letters(p), b);
-    if digit < 16 {
-        return at_digit(p, digit);
+    match progress {
+        Progress::Comment => Ok((between(b != b'\n'), Output::Nothing)),
+        Progress::Reading(field, number) => match digit_value(is_code_point(field), b) {
+            Some(digit) => grown(field, number, digit),
+            None => at_sign(field, number, NO_SIGNS, b),
+        },
+        Progress::Behind(field, number, signs) => match digit_value(signs == BEFORE_CODE_POINT, b) {
+            Some(digit) => begun(field, digit, following(field, number, signs)),
+            None => at_sign(field, number, signs, b),
+        },
     }
-    at_sign(p, b)
-}
-
-pub fn step(p: Progress, b: u8) -> Step
-    ensures { result ≡ notation.step p b }
-{
-    if p.comment {
-        return Step::Next(between(b != 10), nothing());
-    }
-    entry_step(p, b)
 }

@@ -16,11 +16,12 @@ use Rattle.rules.specs.declared.Settings.{Settings}
 use Rattle.filled.specs.Filled.{filled, Stored}
 use Rattle.filled.proofs.Filling.{stored_both}
 use Rattle.writer.specs.declared.Drilled.{Drilled}
-use Rattle.writer.specs.declared.checks.Verdict.{Verdict}
-use Rattle.writer.specs.declared.checks.Verdict.TheVariants as verdicts
+use Rattle.std.proofs.Common.{Result, Ok, Err}
+use Rattle.rules.specs.Refusal.{number_of}
+use Rattle.writer.specs.declared.checks.Refused as code
 use Rattle.writer.specs.Drills.{settings_record, drill, Refused, first_refused}
-use Rattle.writer.specs.Drills.{drilled, check_room, writing, run_after}
-use Rattle.writer.specs.Parts.{line_bytes, verdict}
+use Rattle.writer.specs.Drills.{drilled, writing, run_after}
+use Rattle.writer.specs.Parts.{line_bytes, verdict, log_takes, refused_as, verdict_of}
 use Rattle.writer.specs.Writes.{WritesLog, Writes}
 use Rattle.writer.proofs.Refusals.{refused_number}
 
@@ -33,23 +34,18 @@ drill_length s line = ap length (drill_parts s line) ∙ length-append (settings
 
 module _ (s : Settings) (line run : List ℕ) where
   -- settings out of range
-  pub settings_refused : (ready : Bool) → ready ≡ in_range s → ready ≡ false → (r : Drilled) → r ≡ drilled 1 0 0 → Writes s line run r run
+  pub settings_refused : (ready : Bool) → ready ≡ in_range s → ready ≡ false → Writes s line run (drilled 1 0 0) run
   unfolding writing run_after
-  settings_refused ready tested is-not r e =
+  settings_refused ready tested is-not =
       let i : in_range s ≡ false = sym tested ∙ is-not in
-      record { answered = rw i e; left = rw i }
+      record { answered = rw i; left = rw i }
 
   -- the room alone decides
   module _ (bytes : ℕ) (counted : bytes ≡ length (drill s line)) where
-    too_short : length run < bytes → leb (length (drill s line)) (length run) ≡ false
-    too_short h = lt-leb (length (drill s line)) (length run) (omega arith)
-
-    pub answers_8 : length run < bytes → (r : Drilled) → r ≡ drilled 8 0 (length line)
-        → r ≡ check_room (length (drill s line)) (length run) (length line)
-    answers_8 h r e = rw (too_short h) e
-
-    pub leaves_run : length run < bytes → run ≡ (if leb (length (drill s line)) (length run) then filled (drill s line) run orelse run)
-    leaves_run h = rw (too_short h)
+    pub no_room : length run < bytes → WritesLog s line run (drilled 8 0 (length line)) run
+    no_room h =
+        let t : leb (length (drill s line)) (length run) ≡ false = lt-leb (length (drill s line)) (length run) (omega arith) in
+        record { answered = rw t; left = rw t }
 
     pub log_written : bytes ≤ length run → (first : ℕ) (mid : List ℕ) (last : ℕ) (after : List ℕ)
         → Stored 0 (settings_record s) run first mid
@@ -64,42 +60,39 @@ module _ (s : Settings) (line run : List ℕ) where
           left = rw t (rw zero-add at all.stored);
         }
 
-  bytes_are : (o : Option Refused) (n bytes : ℕ) → verdict o n ≡ verdicts.Bytes bytes → (o ≡ none) × (bytes ≡ n)
+  bytes_are : (o : Option Refused) (n bytes : ℕ) → verdict o n ≡ log_takes bytes → (o ≡ none) × (bytes ≡ n)
   bytes_are none n bytes e = (refl, cc)
   bytes_are (some r) n bytes e = absurd (let z : ◌≡◌ {A = ℕ} 0 1 = cc in omega arith)
 
+  refusal_is : (o : Option Refused) (n : ℕ) (r : Refused) → verdict o n ≡ refused_as r → o ≡ some r
+  refusal_is none n r e = absurd (let z : ◌≡◌ {A = ℕ} 0 1 = cc in omega arith)
+  refusal_is (some q) n r e = cc
+
   -- by the verdict on the line
-  module _ (v : Verdict) (judged : v ≡ verdict (first_refused 0 line) (8 + length (line_bytes 0 line))) where
-    pub bytes_counted : (bytes : ℕ) → v ≡ verdicts.Bytes bytes → bytes ≡ length (drill s line)
+  module _ (v : Result ℕ code.Refused) (judged : verdict_of v ≡ verdict (first_refused 0 line) (8 + length (line_bytes 0 line))) where
+    pub bytes_counted : (bytes : ℕ) → v ≡ Ok bytes → bytes ≡ length (drill s line)
     bytes_counted bytes e =
-        (bytes_are (first_refused 0 line) (8 + length (line_bytes 0 line)) bytes (sym judged ∙ e)).1
+        (bytes_are (first_refused 0 line) (8 + length (line_bytes 0 line)) bytes (sym judged ∙ ap verdict_of e)).1
         ∙ sym (drill_length s line)
 
-    module _ (ready : Bool) (tested : ready ≡ in_range s) (is : ready ≡ true) (r : Drilled) where
+    module _ (ready : Bool) (tested : ready ≡ in_range s) (is : ready ≡ true) where
       i : in_range s ≡ true
       i = sym tested ∙ is
 
-      pub line_refused : (number position : ℕ) → v ≡ verdicts.Refused number position → r ≡ drilled number 0 position
-          → Writes s line run r run
+      pub line_refused : (r : code.Refused) → v ≡ Err r → Writes s line run (drilled (number_of r.refusal) 0 r.position) run
       unfolding writing run_after
-      line_refused number position e f = by_first (first_refused 0 line) refl (sym judged ∙ e)
-        where
-          by_first : (o : Option Refused) → first_refused 0 line ≡ o
-              → verdict o (8 + length (line_bytes 0 line)) ≡ verdicts.Refused number position
-              → Writes s line run r run
-          by_first none g h = absurd (let z : ◌≡◌ {A = ℕ} 0 1 = cc in omega arith)
-          by_first (some q) g h =
-              let not_0 : q.number ≢ 0 = refused_number (λ k. k ≢ 0) (λ z. omega arith) (λ z. omega arith) 0 line q g in
-              let n : number ≡ q.number = cc in
-              let p : position ≡ q.position = cc in
-              record { answered = rw (i, g, ← n, ← p) f; left = rw (i, g, ne_eqb q.number 0 not_0) }
+      line_refused r e =
+          let q : Refused = record { number = number_of r.refusal; position = r.position } in
+          let f : first_refused 0 line ≡ some q = refusal_is (first_refused 0 line) _ q (sym judged ∙ ap verdict_of e) in
+          let not_0 : q.number ≢ 0 = refused_number (λ k. k ≢ 0) (λ z. omega arith) (λ z. omega arith) 0 line q f in
+          record { answered = rw (i, f); left = rw (i, f, ne_eqb q.number 0 not_0) }
 
-      pub line_accepted : (bytes : ℕ) → v ≡ verdicts.Bytes bytes → (after : List ℕ) → WritesLog s line run r after
-          → Writes s line run r after
+      pub line_accepted : (bytes : ℕ) → v ≡ Ok bytes → (d : Drilled) (after : List ℕ) → WritesLog s line run d after
+          → Writes s line run d after
       unfolding writing run_after
-      line_accepted bytes e after w =
+      line_accepted bytes e d after w =
           let fine : first_refused 0 line ≡ none =
-          (bytes_are (first_refused 0 line) (8 + length (line_bytes 0 line)) bytes (sym judged ∙ e)).0 in
+          (bytes_are (first_refused 0 line) (8 + length (line_bytes 0 line)) bytes (sym judged ∙ ap verdict_of e)).0 in
           record {
             answered = rw (i, fine) w.answered;
             left = rw (i, fine) (by_room (leb (length (drill s line)) (length run)) w.left);

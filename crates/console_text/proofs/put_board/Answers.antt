@@ -2,5 +2,4 @@
 use Rattle.console_text.proofs.put_board.Goals as goal
 
 pub returns : goal.returns
-returns c =
-    rw (c.stage_at-stage.ensures, c.waiting_at-waiting.ensures) at c.put_stage.ensures
+returns c = rw c.waiting-waiting.ensures at c.put_stage.ensures

@@ -5,6 +5,3 @@ use Rattle.console_text.proofs.put_boards.Given as goal
 
 abbrev pub invariant-loop-board : goal.invariant-loop-board
 invariant-loop-board l = Going l.c l.boards l.words l.initial.out l.out l.at l.board
-
-abbrev pub decreases-loop-board : goal.decreases-loop-board
-decreases-loop-board l = 16 - l.board

@@ -7,37 +7,37 @@ use Rattle.console_text.proofs.put_log.Goals as goal
 
 pub slice_bounds-boards-end : goal.slice_bounds-boards-end
 slice_bounds-boards-end c =
-    let t = told_lines c.args.log.now c.with_boards-boards.result c.with_words-words.result
-    c.read_console-c.result c.read_console-c.new.boards c.read_console-c.new.words c.with_boards-boards.ensures
-    c.with_words-words.ensures c.read_console-c.auto.boards c.read_console-c.auto.words c.read_console-c.ensures in
+    let t = told_lines c.args.log.now c.buffer-boards.result c.buffer-words.result
+    c.read_console-c.result c.read_console-c.new.boards c.read_console-c.new.words c.buffer-boards.ensures
+    c.buffer-words.ensures c.read_console-c.auto.boards c.read_console-c.auto.words c.read_console-c.ensures in
     t.boards_fit
 
 pub slice_bounds-put_console-end : goal.slice_bounds-put_console-end
 slice_bounds-put_console-end c =
-    let t = told_lines c.args.log.now c.with_boards-boards.result c.with_words-words.result
-    c.read_console-c.result c.read_console-c.new.boards c.read_console-c.new.words c.with_boards-boards.ensures
-    c.with_words-words.ensures c.read_console-c.auto.boards c.read_console-c.auto.words c.read_console-c.ensures in
+    let t = told_lines c.args.log.now c.buffer-boards.result c.buffer-words.result
+    c.read_console-c.result c.read_console-c.new.boards c.read_console-c.new.words c.buffer-boards.ensures
+    c.buffer-words.ensures c.read_console-c.auto.boards c.read_console-c.auto.words c.read_console-c.ensures in
     sym (length-take-le _ _ t.boards_fit)
 
 pub slice_bounds-words-end : goal.slice_bounds-words-end
 slice_bounds-words-end c =
-    let t = told_lines c.args.log.now c.with_boards-boards.result c.with_words-words.result
-    c.read_console-c.result c.read_console-c.new.boards c.read_console-c.new.words c.with_boards-boards.ensures
-    c.with_words-words.ensures c.read_console-c.auto.boards c.read_console-c.auto.words c.read_console-c.ensures in
+    let t = told_lines c.args.log.now c.buffer-boards.result c.buffer-words.result
+    c.read_console-c.result c.read_console-c.new.boards c.read_console-c.new.words c.buffer-boards.ensures
+    c.buffer-words.ensures c.read_console-c.auto.boards c.read_console-c.auto.words c.read_console-c.ensures in
     t.words_fit
 
 pub slice_bounds-put_console-end-2 : goal.slice_bounds-put_console-end-2
 slice_bounds-put_console-end-2 c =
-    let t = told_lines c.args.log.now c.with_boards-boards.result c.with_words-words.result
-    c.read_console-c.result c.read_console-c.new.boards c.read_console-c.new.words c.with_boards-boards.ensures
-    c.with_words-words.ensures c.read_console-c.auto.boards c.read_console-c.auto.words c.read_console-c.ensures in
+    let t = told_lines c.args.log.now c.buffer-boards.result c.buffer-words.result
+    c.read_console-c.result c.read_console-c.new.boards c.read_console-c.new.words c.buffer-boards.ensures
+    c.buffer-words.ensures c.read_console-c.auto.boards c.read_console-c.auto.words c.read_console-c.ensures in
     sym (length-take-le _ _ t.words_fit)
 
 pub put_console-requires : goal.put_console-requires
 put_console-requires c =
-    let t = told_lines c.args.log.now c.with_boards-boards.result c.with_words-words.result
-    c.read_console-c.result c.read_console-c.new.boards c.read_console-c.new.words c.with_boards-boards.ensures
-    c.with_words-words.ensures c.read_console-c.auto.boards c.read_console-c.auto.words c.read_console-c.ensures in
+    let t = told_lines c.args.log.now c.buffer-boards.result c.buffer-words.result
+    c.read_console-c.result c.read_console-c.new.boards c.read_console-c.new.words c.buffer-boards.ensures
+    c.buffer-words.ensures c.read_console-c.auto.boards c.read_console-c.auto.words c.read_console-c.ensures in
     let w = length-take-le _ _ t.words_fit in
     record {
       boards_len = length-take-le _ _ t.boards_fit ∙ sym w;
@@ -46,9 +46,9 @@ put_console-requires c =
 
 pub returns : goal.returns
 returns c =
-    let t = told_lines c.args.log.now c.with_boards-boards.result c.with_words-words.result
-    c.read_console-c.result c.read_console-c.new.boards c.read_console-c.new.words c.with_boards-boards.ensures
-    c.with_words-words.ensures c.read_console-c.auto.boards c.read_console-c.auto.words c.read_console-c.ensures in
+    let t = told_lines c.args.log.now c.buffer-boards.result c.buffer-words.result
+    c.read_console-c.result c.read_console-c.new.boards c.read_console-c.new.words c.buffer-boards.ensures
+    c.buffer-words.ensures c.read_console-c.auto.boards c.read_console-c.auto.words c.read_console-c.ensures in
     let w = length-take-le c.read_console-c.result.words c.read_console-c.new.words t.words_fit in
     record {
       stored = rw t.lines at c.put_console.ensures.stored;

@@ -11,13 +11,12 @@ bounds-boards-i c = omega (arith, c.requires.boards_len, c.loop-i-test.true)
 
 pub put_word-next-requires : goal.put_word-next-requires
 put_word-next-requires c =
-    rw c.wide.ensures
-    (next_fits _ _ _ c.requires.boards_len _ _ c.requires.words_in_bounds _ _ _ c.loop-i.invariant c.loop-i-test.true)
+    next_fits _ _ _ c.requires.boards_len _ _ c.requires.words_in_bounds _ _ _ c.loop-i.invariant c.loop-i-test.true
 
 pub loop-i-preserved : goal.loop-i-preserved
 loop-i-preserved c =
     taken _ _ _ c.requires.boards_len _ _ c.requires.words_in_bounds _ _ _ c.loop-i.invariant c.loop-i-test.true _ _
-    (rw c.wide.ensures at c.put_word-next.ensures)
+    c.put_word-next.ensures
 
 pub returns : goal.returns
 returns c =

@@ -1,37 +1,19 @@
--- `decode::fill` meets its contract: the run is filled with the words of the sequences passed (`Filling`).
-use borrow.Author.Rules.{rules}
-use native.Mathlib.Omega.{arith}
-use Rattle.decode.proofs.Passing.{next_inside, empty, same_length, all_filled, never_damaged, next_fits, fills_on}
+-- `decode::fill` meets its contract: the run is filled with the words that were read (`Filling`).
+use Rattle.std.proofs.Common.{rules, refl}
+use Rattle.decode.proofs.Passing.{empty, next_fits, fills_on}
 use Rattle.decode.proofs.fill.Goals as goal
 
-pub loop-at-init : goal.loop-at-init
-loop-at-init c = empty _ _
-
-pub shape_of-out-in-Damaged : goal.shape_of-out-in-Damaged
-shape_of-out-in-Damaged c = search (same_length, rules)
-
-pub returns-in-Damaged : goal.returns-in-Damaged
-returns-in-Damaged c = search (never_damaged, rules)
+pub loop-n-init : goal.loop-n-init
+loop-n-init c =
+    rw (c.into_iter-n-iterator.ensures.into_iter_gives, c.enumerate-n-items.ensures.source, c.enumerate-n-items.ensures.count)
+    (empty _ _ _ _ refl refl refl)
 
 pub bounds-out-n : goal.bounds-out-n
-bounds-out-n c = search (next_fits, rules)
+bounds-out-n c =
+    let (given, n-is, count-is, small) = c.in-Some.ensures.steps in
+    rw n-is (next_fits _ _ c.requires _ _ _ c.loop-n.invariant _ _ _ c.in-Ok.is given (search rules))
 
--- the next position is not past the end
-pub overflow_add-at : goal.overflow_add-at
-overflow_add-at c =
-    let inv = c.loop-at.invariant.passed in
-    omega (arith, next_inside _ _ _ inv c.loop-at-test.true _ c.front.ensures _ _ c.in-Word.is)
-
-pub overflow_add-at-in-Word : goal.overflow_add-at-in-Word
-overflow_add-at-in-Word c =
-    let inv = c.loop-at.invariant.passed in
-    omega (arith, next_inside _ _ _ inv c.loop-at-test.true _ c.front.ensures _ _ c.in-Word.is)
-
-pub loop-at-preserved : goal.loop-at-preserved
-loop-at-preserved c = search (fills_on, rules)
-
-pub shape_of-out : goal.shape_of-out
-shape_of-out c = search (same_length, rules)
-
-pub returns : goal.returns
-returns c = search (all_filled, rules)
+pub loop-n-preserved-in-Ok : goal.loop-n-preserved-in-Ok
+loop-n-preserved-in-Ok c =
+    let (given, n-is, count-is, small) = c.in-Some.ensures.steps in
+    rw (n-is, count-is) (fills_on _ _ c.requires _ _ _ c.loop-n.invariant _ _ _ c.in-Ok.is given (search rules))

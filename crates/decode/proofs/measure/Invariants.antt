@@ -1,11 +1,6 @@
--- `decode::measure` meets its contract: the sequences passed have given as many words as are counted (`Passed`).
-use Prim.Native.Nat.{◌-◌}
-use lib.ListN.{length}
-use Rattle.decode.proofs.Passing.{Passed}
+-- `decode::measure` meets its contract: the words that were read are counted (`Read`).
+use Rattle.decode.proofs.Passing.{Read}
 use Rattle.decode.proofs.measure.Given as goal
 
-abbrev pub invariant-loop-at : goal.invariant-loop-at
-invariant-loop-at l = Passed l.bytes l.at l.n
-
-abbrev pub decreases-loop-at : goal.decreases-loop-at
-decreases-loop-at l = length l.bytes - l.at
+abbrev pub invariant-loop-word : goal.invariant-loop-word
+invariant-loop-word l = Read l.bytes l.word-iterator l.n

@@ -1,13 +1,25 @@
--- `steps::step` meets its contract.
-use borrow.Author.Rules.{rules}
-use Rattle.notation.specs.Transcribing.{step}
-use Rattle.transcriber.proofs.Outside.{outside_comment}
+-- `steps::step` meets its contract: a digit is told by `digit_value`, any other byte is a sign.
+use Rattle.std.proofs.Common.{arith}
+use Rattle.std.proofs.lemmas.Grind.{common_steps}
+use Rattle.notation.specs.Transcribing.{takes_letters, at_digit, at_sign, entry_step, step}
 use Rattle.transcriber.proofs.steps.step.Goals as goal
 
-pub returns-then-p : goal.returns-then-p
-unfolding step
-returns-then-p c = rw (c.if-p.true, ← c.between.ensures, ← c.nothing.ensures)
+pub returns-in-Comment : goal.returns-in-Comment
+unfolding takes_letters at_digit at_sign entry_step step
+returns-in-Comment c = grind (arith, common_steps)
 
-pub returns : goal.returns
-unfolding step
-returns c = search (outside_comment, rules)
+pub returns-in-Some : goal.returns-in-Some
+unfolding takes_letters at_digit at_sign entry_step step
+returns-in-Some c = grind (arith, common_steps)
+
+pub returns-in-None : goal.returns-in-None
+unfolding takes_letters at_digit at_sign entry_step step
+returns-in-None c = grind (arith, common_steps)
+
+pub returns-in-Some-digit_value : goal.returns-in-Some-digit_value
+unfolding takes_letters at_digit at_sign entry_step step
+returns-in-Some-digit_value c = grind (arith, common_steps)
+
+pub returns-in-None-digit_value : goal.returns-in-None-digit_value
+unfolding takes_letters at_digit at_sign entry_step step
+returns-in-None-digit_value c = grind (arith, common_steps)
