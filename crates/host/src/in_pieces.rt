@@ -16,16 +16,14 @@ pub struct PieceRead {
     pub answer: Answer,
 }
 
-// What a call gives, for C.
-fn handed_back(fed: FedNumbers) -> PieceRead
-    ensures reader_value { result.reader ≡ fed.reader }
-    ensures answer_value { told result.answer ≡ fed.answer }
-{
-    let reader = fed.reader;
-    let answer = fed.answer;
-    PieceRead {
-        reader: reader,
-        answer: crate::numbers(answer),
+impl From<FedNumbers> for PieceRead {
+    ghost from_gives = { λ fed given. (given.reader ≡ fed.reader) × (told given.answer ≡ fed.answer) };
+
+    fn from(fed: FedNumbers) -> PieceRead {
+        PieceRead {
+            reader: fed.reader,
+            answer: fed.answer.into(),
+        }
     }
 }
 
@@ -62,7 +60,7 @@ pub extern "C" fn trabeculon_reader_piece(
     ensures { GivesPiece reader list.old piece.now out.old
         (accepted list.old reader) result list.new out.new }
 {
-    handed_back(log_reader::feed_numbers(reader, list, piece, out))
+    log_reader::feed_numbers(reader, list, piece, out).into()
 }
 
 // The log has ended.
@@ -70,5 +68,5 @@ pub extern "C" fn trabeculon_reader_piece(
 pub extern "C" fn trabeculon_reader_end(reader: ReaderNumbers, list: &[u32]) -> PieceRead
     ensures { GivesEnd reader list.now (accepted list.now reader) result }
 {
-    handed_back(log_reader::end_numbers(reader, list))
+    log_reader::end_numbers(reader, list).into()
 }

@@ -16,14 +16,16 @@ pub struct MendAnswer {
     pub dropped: u64,
 }
 
-fn answer(done: Mended) -> MendAnswer
-    ensures { mended result ≡ done }
-{
-    MendAnswer {
-        number: done.number as u64,
-        bytes: done.bytes as u64,
-        listed: done.listed as u64,
-        dropped: done.dropped as u64,
+impl From<Mended> for MendAnswer {
+    ghost from_gives = { λ done answer. mended answer ≡ done };
+
+    fn from(done: Mended) -> MendAnswer {
+        MendAnswer {
+            number: done.number as u64,
+            bytes: done.bytes as u64,
+            listed: done.listed as u64,
+            dropped: done.dropped as u64,
+        }
     }
 }
 
@@ -32,5 +34,5 @@ fn answer(done: Mended) -> MendAnswer
 pub extern "C" fn trabeculon_mend(log: &[u8], out: &mut [u8], list: &mut [u64]) -> MendAnswer
     ensures { Mends log.now out.old list.old (mended result) out.new list.new }
 {
-    answer(mender::mend(log, out, list))
+    mender::mend(log, out, list).into()
 }

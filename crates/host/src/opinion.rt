@@ -11,5 +11,5 @@ use crate::Answer;
 pub extern "C" fn trabeculon_second_opinion(log: &[u8], out: &mut [u8]) -> Answer
     ensures { Gives (opined (length out.old / 2) log.now) out.old (told result) out.new }
 {
-    crate::numbers(second_opinion::opine(log, out))
+    second_opinion::opine(log, out).into()
 }

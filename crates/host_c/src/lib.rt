@@ -1,5 +1,5 @@
 // The functions of `host` alone, as a static library, libhost_c.a: the reader that bench/combined sets beside the whole face.
-// Each function is that of `host` under the same name, with its contract.
+// Each function is that of `host` under the same name, with its contract: a static library exports the functions that it has itself.
 #![tactic(auto)]
 
 ghost use Rattle.std.specs.Prelude.{◌/◌, ◌≡◌, length};

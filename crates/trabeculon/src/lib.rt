@@ -1,5 +1,5 @@
 // The whole face for a C host, as one library: libtrabeculon.a. Each function is that of `host`, `keyboard` or `keyboard_row` under
-// the same name, with its contract.
+// the same name, with its contract: a static library exports the functions that it has itself.
 #![tactic(auto)]
 
 ghost use Rattle.std.specs.Prelude.{◌/◌, ◌≡◌, length};

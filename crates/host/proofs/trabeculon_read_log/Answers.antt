@@ -2,4 +2,4 @@
 use Rattle.host.proofs.trabeculon_read_log.Goals as goal
 
 pub returns : goal.returns
-returns c = rw c.numbers.ensures c.read_packed.ensures
+returns c = rw c.into.ensures c.read_packed.ensures

@@ -4,5 +4,4 @@ use Rattle.host.proofs.in_pieces.trabeculon_reader_end.Goals as goal
 
 pub returns : goal.returns
 returns c = let given = c.args in
-    end_given given.reader given.list.now _ _ c.handed_back.ensures.reader_value c.handed_back.ensures.answer_value
-    c.end_numbers.ensures
+    end_given given.reader given.list.now _ _ c.into.ensures.0 c.into.ensures.1 c.end_numbers.ensures

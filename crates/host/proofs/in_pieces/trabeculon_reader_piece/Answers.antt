@@ -4,6 +4,4 @@ use Rattle.host.proofs.in_pieces.trabeculon_reader_piece.Goals as goal
 
 pub returns : goal.returns
 returns c =
-    piece_given c.args.reader c.args.list.now _ _ c.handed_back.ensures.reader_value c.handed_back.ensures.answer_value
-    c.args.piece.now _ _ _
-    c.feed_numbers.ensures
+    piece_given c.args.reader c.args.list.now _ _ c.into.ensures.0 c.into.ensures.1 c.args.piece.now _ _ _ c.feed_numbers.ensures

@@ -2,4 +2,4 @@
 use Rattle.host.proofs.mended.trabeculon_mend.Goals as goal
 
 pub returns : goal.returns
-returns c = rw c.answer.ensures c.mend.ensures
+returns c = rw c.into.ensures c.mend.ensures

@@ -2,4 +2,4 @@
 use Rattle.host.proofs.opinion.trabeculon_second_opinion.Goals as goal
 
 pub returns : goal.returns
-returns c = rw c.numbers.ensures c.opine.ensures
+returns c = rw c.into.ensures c.opine.ensures
