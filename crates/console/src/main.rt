@@ -6,79 +6,39 @@
 // error says why, and some of the text may have been written.
 #![tactic(auto)]
 
-mod messages;
+ghost use Rattle.std.specs.Prelude.{◌≤◌, length};
+ghost use Rattle.console_text.specs.Shows.{longest_log};
 
-ghost use Rattle.std.specs.Prelude.{◌≤◌, ◌≡◌, length};
-ghost use Rattle.console_text.specs.Shows.{longest_log, text_room};
-ghost use Rattle.console.specs.Texts.{HasText};
+use console_text::{LONGEST_LOG, TEXT_ROOM};
+use input::{Failure, Program, Source};
 
-use console_text::{LONGEST_LOG, Shown, TEXT_ROOM};
-use input::{Asked, Input, Source};
-use std::io::{Stderr, Stdout};
+const CONSOLE: Program = Program {
+    name: "console",
+    usage: "usage: console [LOG]
+Prints, for each keyboard K that a console's log names, `K: ` and its line, and below it `K: ` and
+`waiting N` or `refused N at OFFSET`; last, if the whole log was refused, `refused N at OFFSET`.
+A log of more than 1048576 bytes is refused 9. Without LOG, standard input is read.
+",
+};
 
-// Buffers as they are given: a parameter's length is known by its type, that of a new array would take too long to compute.
-fn with_log(log: [u8; LONGEST_LOG]) -> [u8; LONGEST_LOG]
-    ensures { longest_log ≡ length result }
+// Prints what is said of a log that begins with these bytes and has more.
+fn print_longer(rt: &impl Print, start: &[u8]) -> Result<(), Failure>
+    requires { longest_log ≤ length start.now }
 {
-    log
+    rt.write_all(b"refused 9 at 1048576\n")
+        .map_err(Failure::Output)
 }
 
-fn with_text(out: [u8; TEXT_ROOM]) -> [u8; TEXT_ROOM]
-    ensures { text_room ≡ length result }
-{
-    out
-}
-
-fn print(stdout: Stdout, stderr: Stderr, text: &[u8]) {
-    match stdout.write_all(text) {
-        Ok(()) => {}
-        Err(error) => input::fail(stderr, b"console: standard output", error),
-    }
-}
-
-// Prints the text of a log.
-fn print_text(stdout: Stdout, stderr: Stderr, shown: Shown, out: &[u8])
-    requires { HasText (length out.now) shown }
-{
-    match shown {
-        // There is room: `with_text`.
-        Shown::Unread => {}
-        Shown::Text(bytes) => print(stdout, stderr, &out[..bytes]),
-    }
-}
-
-fn print_log(stdout: Stdout, stderr: Stderr, log: &[u8], out: &mut [u8])
-    requires log_len_bound { length log.now ≤ longest_log }
-    requires text_room_in_bounds { text_room ≤ length out.old }
-{
-    let shown = console_text::show(log, out);
-    print_text(stdout, stderr, shown, out);
-}
-
-fn run(stdout: Stdout, stderr: Stderr, from: &mut Source, label: &[u8]) {
-    let mut log = with_log([0; LONGEST_LOG]);
-    let mut out = with_text([0; TEXT_ROOM]);
-    match input::read(from, &mut log) {
-        Input::Whole(n) => print_log(stdout, stderr, &log[..n], &mut out),
-        Input::Longer => print(stdout, stderr, b"refused 9 at 1048576\n"),
-        Input::Failed(error) => input::fail(stderr, label, error),
-    }
-}
-
-// Runs on the file that argument i names, or for 0 on standard input.
-fn run_on(rt: HostRuntime, i: usize) {
-    let mut buf = io::buffer();
-    let n = input::label(&rt, b"console: ", i, &mut buf);
-    match input::open(rt, i) {
-        Ok(mut from) => run(rt.stdout(), rt.stderr(), &mut from, &buf[..n]),
-        Err(error) => input::fail(rt.stderr(), &buf[..n], error),
-    }
+fn print_console(rt: &impl Print, from: &mut Source) -> Result<(), Failure> {
+    let mut buf: [u8; LONGEST_LOG] = input::buffer(0);
+    let mut out: [u8; TEXT_ROOM] = input::buffer(0);
+    let Some(log) = input::read(from, &mut buf)? else {
+        return print_longer(rt, &buf);
+    };
+    let bytes = console_text::show(log, &mut out).unwrap();
+    rt.write_all(&out[..bytes]).map_err(Failure::Output)
 }
 
 fn main(rt: HostRuntime) {
-    match input::read_arguments(&rt) {
-        Asked::Work(i) => run_on(rt, i),
-        Asked::Help => messages::print_usage(&rt.stdout()),
-        Asked::Unclear => messages::print_usage(&rt.stderr()),
-    }
+    CONSOLE.run(rt, |from| print_console(&rt, from));
 }

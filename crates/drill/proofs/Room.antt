@@ -7,7 +7,7 @@ use mathlib.Core.List.{List, [], ◌∷◌}
 use mathlib.Core.Option.{Option, none, some}
 use mathlib.Core.Path.{◌≡◌, refl}
 use lib.Dec.{eqb, leb, ltb}
-use lib.ListN.{length, length-append}
+use lib.ListN.{length, take, length-append, length-take}
 use Rattle.rules.specs.Numbers.{largest_stamp, in_range}
 use Rattle.rules.specs.declared.Settings.{Settings}
 use Rattle.rules.specs.declared.Stamp.{Stamp}
@@ -17,18 +17,15 @@ use Rattle.rules.specs.declared.Event.{Event}
 use Rattle.choice.proofs.Choices.{both_ways, by_test}
 use Rattle.lookup.specs.Places.{Place, place_of}
 use Rattle.lookup.proofs.Table.{below_table}
-use Rattle.decode.specs.Sequences.{continues, joined, within, surrogate, two, three, four, byte, front}
+use Rattle.decode.specs.Sequences.{Sequence, Damaged, Word, continues, joined, within, surrogate, two, three, four, byte, front}
 use Rattle.decode.specs.Decoding.{Decoding, words, damaged, followed_by, beginning, decoded_from, decoded}
-use Rattle.decode.specs.declared.sequence.Sequence.{Sequence}
-use Rattle.decode.specs.declared.sequence.Sequence.TheVariants.{Damaged, Word}
 use Rattle.decode.proofs.Fronts.{follow}
 use Rattle.writer.specs.Drills.{settings_record, event_record, event_records, strokes, drill_stamp, line_events, drill}
 use Rattle.writer.specs.Drills.{Refused, check_character, first_of, first_refused, check_line, writing}
-use Rattle.drill.specs.Texts.{longest_text, line_size, line_of, told, answer_of, Drills, Within}
+use Rattle.drill.specs.Texts.{Answer, longest_text, line_size, line_of, told, answer_of, Drills, Within}
 use Rattle.drill.specs.Room.{log_room, RoomSuffices}
 use Rattle.drill.specs.Room as answered
-use Rattle.drill.specs.declared.lines.Answer.{Answer}
-use Rattle.drill.proofs.Answering.{short_front}
+use Rattle.drill.proofs.Answering.{within_room}
 
 -- The log of a line: 8 bytes, and at most five records of 13 for each character.
 
@@ -193,13 +190,19 @@ room_suffices s text room short enough = by_decoding (decoded (line_of text)) re
   where
     by_decoding : (d : Decoding) → decoded (line_of text) ≡ d → answered.Not8 (answer_of s room d)
     by_decoding (words line) e =
-        let cut : length (line_of text) ≤ longest_text = short_front (line_size text) longest_text text short in
+        let cut : length (line_of text) ≤ longest_text = simp length-take (omega arith) in
         written s line room enough
         (λ f. omega (arith, three_each 0 0 (line_of text) line e (accepted_wide 0 line f) (omega arith)))
     by_decoding (damaged at) e = λ position f. let z : ◌≡◌ {A = ℕ} 0 1 = cc in omega arith
 
--- what `write` promises of a text
-module _ (s : Settings) (text run : List ℕ) (short : length text ≤ longest_text) (enough : log_room ≤ length run) where
-  pub never_refused_8 : (r : Answer) (after : List ℕ) → Drills s text run r after × Within (length run) r
-      → Drills s text run r after × (Within (length run) r × answered.Not8 r)
-  never_refused_8 r after (d, w) = (d, (w, rw d.answered (room_suffices s text (length run) short enough)))
+-- what `write` promises besides of a text
+module _ (s : Settings) (text run : List ℕ) (r : Answer) (after : List ℕ) (d : Drills s text run r after) where
+  pub drilled_within : Within (length run) r
+  drilled_within = rw d.answered (by (decoded (line_of text)))
+    where
+      by : (x : Decoding) → Within (length run) (answer_of s (length run) x)
+      by (words line) = within_room s line (length run)
+      by (damaged at) = tt
+
+  pub never_refused_8 : length text ≤ longest_text → log_room ≤ length run → answered.Not8 r
+  never_refused_8 short enough = rw d.answered (room_suffices s text (length run) short enough)

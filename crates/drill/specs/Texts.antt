@@ -1,12 +1,16 @@
 -- Document 02, 2/12: what the program makes of the text that it reads.
-use Rattle.std.specs.Prelude.{ℕ, ◌-◌, ◌≤◌, List, ◌≡◌, eqb, length, take, get_or}
+use Rattle.std.specs.Prelude.{ℕ, ◌-◌, ◌≤◌, List, ◌≡◌, eqb, length, take, get_or, Result, Ok, Err}
 use Rattle.choice.specs.Choice.{if◌then◌orelse◌}
 use Rattle.rules.specs.declared.Settings.{Settings}
 use Rattle.decode.specs.Decoding.{Decoding, words, damaged, decoded}
 use Rattle.writer.specs.declared.Drilled.{Drilled}
 use Rattle.writer.specs.Drills.{writing, run_after}
-use Rattle.drill.specs.declared.lines.Answer.{Answer}
-use Rattle.drill.specs.declared.lines.Answer.TheVariants.{Log, Refused, Damaged}
+use Rattle.drill.specs.declared.lines.Unwritten.{Unwritten}
+use Rattle.drill.specs.declared.lines.Unwritten.TheVariants.{Refused, Damaged}
+
+-- how many bytes the log of a text has, or why it has none
+abbrev pub Answer : Type 0
+Answer = Result ℕ Unwritten
 
 -- one buffer of 65,536 bytes
 abbrev pub longest_text : ℕ
@@ -24,7 +28,7 @@ line_of text = take (line_size text) text
 
 -- what the writer answers of a line
 abbrev pub told : Drilled → Answer
-told d = if eqb d.number 0 then Log d.bytes orelse Refused d.number d.position
+told d = if eqb d.number 0 then Ok d.bytes orelse Err (Refused d.number d.position)
 
 -- a line into a run
 pub record Answers (s : Settings) (line run : List ℕ) (answer : Answer) (after : List ℕ) : Type 0 where
@@ -34,7 +38,7 @@ pub record Answers (s : Settings) (line run : List ℕ) (answer : Answer) (after
 -- damaged UTF-8 is found before anything else, and leaves the run as it was
 abbrev pub answer_of : Settings → ℕ → Decoding → Answer
 answer_of s room (words line) = told (writing s line room)
-answer_of s room (damaged at) = Damaged at
+answer_of s room (damaged at) = Err (Damaged at)
 
 abbrev pub log_after : Settings → List ℕ → Decoding → List ℕ
 log_after s run (words line) = run_after s line run
@@ -47,6 +51,5 @@ pub record Drills (s : Settings) (text run : List ℕ) (answer : Answer) (after 
 
 -- the bytes that an answer counts are within a length
 abbrev pub Within : ℕ → Answer → Type 0
-Within n (Log k) = k ≤ n
-Within n (Refused number position) = Unit {0}
-Within n (Damaged at) = Unit {0}
+Within n (Ok k) = k ≤ n
+Within n (Err why) = Unit {0}

@@ -1,9 +1,10 @@
 // What the program says on standard error, and how to use it.
+use crate::words::Counted;
+use meanings::Meaning;
 use std::io::Stderr;
 
-pub fn print_usage(to: &impl Print) {
-    let _ = to.println(
-        "usage: explain [--lines A..B] [--from STAMP] [--to STAMP] [--why N | --svg | --margins] [--progress] [LOG]
+pub const USAGE: &str =
+    "usage: explain [--lines A..B] [--from STAMP] [--to STAMP] [--why N | --svg | --margins] [--progress] [LOG]
 Prints, for each event of a log, what it did and why: the numbers that were compared, and how many
 milliseconds sooner or later would have decided otherwise; below them what was committed in all, and the
 closest calls of the events shown. Without LOG, standard input is read.
@@ -15,9 +16,8 @@ closest calls of the events shown. Without LOG, standard input is read.
   --margins     how close the decisions were instead, and how many presses T 10 ms, or J or L 5 percent, less
                 or more would have changed
   --progress    a line on standard error for each MiB read, also where that is no terminal
-Example: explain --why 3 < examples/saikai.log",
-    );
-}
+Example: explain --why 3 < examples/saikai.log
+";
 
 pub fn print_progress(stderr: Stderr, mib: u64) {
     let _ = println!(stderr; "explain: {mib} MiB read");
@@ -32,15 +32,11 @@ pub fn print_too_many(stderr: Stderr, events: u64) {
 
 // Why a log is refused.
 pub fn print_refused(stderr: Stderr, number: u32, offset: usize) {
-    let _ = print!(stderr; "explain: record at byte {offset}: ");
-    meanings::print_meaning(stderr, number as u64);
+    let meaning = Meaning(number as u64);
+    let _ = println!(stderr; "explain: record at byte {offset}: {meaning}");
 }
 
 pub fn print_not_there(stderr: Stderr, committed: u64) {
-    let _ = print!(stderr; "explain: the log commits {committed}");
-    if committed == 1 {
-        let _ = stderr.println(" character and no more");
-        return;
-    }
-    let _ = stderr.println(" characters and no more");
+    let characters = Counted(committed, "character", "characters");
+    let _ = println!(stderr; "explain: the log commits {characters} and no more");
 }

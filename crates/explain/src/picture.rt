@@ -1,54 +1,26 @@
 // A timeline as SVG: letters and thumbs as bars from press to release, deadlines as ticks, committed characters where they were committed,
 // and below them the time that decided, with its margin.
-use crate::others::Margin;
-use crate::summary::NONE;
-use crate::words::{say, say_number, say_word};
-use crate::{others, summary};
-use engine::{Items, Times};
-use margins::Due;
-use rules::{Event, Face, Item, Key, Lag, Machine, Resting};
-use std::io::Stdout;
+ghost use Rattle.std.specs.Prelude.{◌≤◌};
+
+use crate::messages;
+use crate::report::Report;
+use crate::steps::{Margin, Step, is_none, is_released, words};
+use crate::words::Word;
+use keylog::LogAnswer;
+use margins::began;
+use pairs::Lent;
+use rules::{Face, Input, Key, Resting, Stamp, Thumb};
+use std::fmt::Formatter;
+use std::io::{Stderr, Stdout};
+use std::{fmt, io};
 
 // So many events fit.
-pub const MOST: u64 = 256;
+const MOST: usize = 256;
 
-// What is kept of each: 10 numbers.
-const FIELDS: u64 = 10;
-
-// Room for all of them.
-pub const ROOM: usize = 2560;
-
-const STAMP: u64 = 0;
-
-const KIND: u64 = 1;
-
-const KEY: u64 = 2;
-
-// The words of what it committed, 0 for none, EMPTY for an empty face.
-const FIRST: u64 = 3;
-
-const SECOND: u64 = 4;
-
-const EMPTY: u64 = 65536;
-
-// When the state before it began; where nothing rested, the event's own stamp.
-const BEGAN: u64 = 5;
-
-// A millisecond behind the deadline after it, 0 for none.
-const DUE: u64 = 6;
-
-const MARGIN: u64 = 7;
-
-// 1 for a margin later, 0 for one sooner.
-const LATER: u64 = 8;
-
-// Where the time that decided ends.
-const UNTIL: u64 = 9;
-
-// Where the first stamp stands, and the last.
+// Where the first stamp stands, and how far from it the last.
 const LEFT: u64 = 84;
 
-const RIGHT: u64 = 1140;
+const WIDTH: u64 = 1056;
 
 // The rows: letters by the keyboard's rows D, C and B, then the thumbs, the deadlines, what was committed, what decided, and its margin.
 const ROW_D: u64 = 36;
@@ -69,435 +41,302 @@ const ROW_GAP: u64 = 236;
 
 const ROW_MARGIN: u64 = 252;
 
-// The spans of time that are drawn: from the first stamp to the last.
+// What is drawn of an accepted event.
+#[derive(Clone, Copy)]
+struct Drawn {
+    stamp: Stamp,
+    // a repeat as a tick, which is not drawn
+    input: Input,
+    words: [Option<u16>; 2],
+    // the deadline behind it
+    due: Option<Stamp>,
+    // the time that decided, and how close the decision was, if that is drawn
+    began: Stamp,
+    until: Stamp,
+    margin: Option<Margin>,
+}
+
+impl Drawn {
+    fn new(lent: Lent<'_>, step: &Step) -> Drawn {
+        let stamp = step.event.stamp;
+        let numbers = step.numbers(lent);
+        let margin = step.closeness(lent).margin();
+        Drawn {
+            stamp,
+            input: match step.input() {
+                Input::CharacterDown(_) if step.acts_as_tick() => Input::Tick,
+                input => input,
+            },
+            words: words(step.items),
+            due: step.deadline(lent),
+            began: match step.machine.resting {
+                Resting::S1 => stamp,
+                // In S8 an event in time is measured from the second key on.
+                Resting::S8(_, _, _, second, _) if !numbers.late => second,
+                resting => began(resting),
+            },
+            // The deadline came before the event where that was late.
+            until: match numbers.due {
+                Some(deadline) if numbers.late => deadline,
+                _ => stamp,
+            },
+            // What was committed, and a release that left it open.
+            margin: if is_none(step.items) && !is_released(step.after.resting) {
+                None
+            } else {
+                margin
+            },
+        }
+    }
+
+    fn is_released_by(&self, other: &Drawn) -> bool {
+        match (self.input, other.input) {
+            (Input::CharacterDown(key), Input::CharacterUp(own)) => key == own,
+            (Input::ThumbDown(thumb), Input::ThumbUp(own)) => thumb == own,
+            _ => false,
+        }
+    }
+}
+
+#[derive(Drop)]
+pub struct Picture {
+    events: [Option<Drawn>; MOST],
+    // how many were to be drawn
+    count: usize,
+}
+
+impl Picture {
+    pub fn empty() -> Picture {
+        Picture {
+            events: [None; MOST],
+            count: 0,
+        }
+    }
+
+    // The time that is drawn: from the first stamp to the last.
+    fn span(&self) -> Span {
+        let mut stamps = self.events.iter().flatten().map(|event| event.stamp);
+        let first = stamps.next().unwrap_or(Stamp(0));
+        Span {
+            first,
+            last: stamps.last().unwrap_or(first),
+        }
+    }
+
+    // The bar of a press, up to its release.
+    fn press<W: fmt::Write>(
+        &self,
+        f: &mut Formatter<W>,
+        span: Span,
+        i: usize,
+        event: &Drawn,
+    ) -> fmt::Result {
+        let mut behind = self.events.iter().flatten().skip(i);
+        let end = behind
+            .find(|other| event.is_released_by(other))
+            .map_or(span.last, |other| other.stamp);
+        let x = span.across(event.stamp);
+        let right = span.across(end);
+        match event.input {
+            Input::CharacterDown(key) => letter(f, key, x, right),
+            Input::ThumbDown(Thumb::Left) => bar(f, "thumb", x, ROW_L, right),
+            Input::ThumbDown(Thumb::Right) => bar(f, "thumb", x, ROW_R, right),
+            Input::FunctionDown => text(f, "name", x, ROW_DUE, "fn"),
+            _ => Ok(()),
+        }
+    }
+}
+
+impl Report for Picture {
+    fn accepted(
+        &mut self,
+        _out: Stdout,
+        lent: Lent<'_>,
+        step: &Step,
+        shown: bool,
+    ) -> io::Result<()> {
+        if shown {
+            if let Some(place) = self.events.get_mut(self.count) {
+                *place = Some(Drawn::new(lent, step));
+            }
+            self.count = self.count.saturating_add(1);
+        }
+        Ok(())
+    }
+
+    fn end(&self, out: Stdout, err: Stderr, _answer: LogAnswer) -> io::Result<()> {
+        if self.count > MOST {
+            messages::print_too_many(err, self.count as u64);
+            return Ok(());
+        }
+        print!(out; "{self}")
+    }
+}
+
+impl fmt::Display for Picture {
+    fn fmt<W: fmt::Write>(&self, f: &mut Formatter<W>) -> fmt::Result {
+        let span = self.span();
+        f.write_str(HEAD)?;
+        time(f, "small", LEFT, 18, span.first.0)?;
+        time(f, "small end", LEFT + WIDTH, 18, span.last.0)?;
+        for (i, event) in self.events.iter().flatten().enumerate() {
+            self.press(f, span, i, event)?;
+            deadline(f, span, event)?;
+            decision(f, span, event)?;
+        }
+        f.write_str("</svg>\n")
+    }
+}
+
 #[derive(Clone, Copy)]
 struct Span {
-    first: u64,
-    last: u64,
+    first: Stamp,
+    last: Stamp,
 }
 
-// A field of event number i, 0 where there is none.
-fn field(rows: &[u64], i: u64, f: u64) -> u64 {
-    if i < MOST {
-        if f < FIELDS {
-            let at = (i * FIELDS + f) as usize;
-            if at < rows.len() {
-                return rows[at];
-            }
+impl Span {
+    // Where a stamp stands.
+    fn across(&self, stamp: Stamp) -> u64
+        ensures { result ≤ 1140 }
+    {
+        if stamp <= self.first {
+            return LEFT;
         }
-    }
-    0
-}
-
-fn set(rows: &mut [u64], i: u64, f: u64, n: u64) {
-    if i < MOST {
-        if f < FIELDS {
-            let at = (i * FIELDS + f) as usize;
-            if at < rows.len() {
-                rows[at] = n;
-            }
+        if self.last <= stamp {
+            return LEFT + WIDTH;
         }
+        let part = waits::lag(self.first, stamp).0;
+        let whole = waits::lag(self.first, self.last).0;
+        LEFT + (part.saturating_mul(WIDTH) / whole).min(WIDTH)
     }
-}
-
-fn due_field(due: Due) -> u64 {
-    match due {
-        Due::Never => 0,
-        Due::At(stamp) => waits::later(stamp, Lag(1)).0,
-    }
-}
-
-// Where the time that decided begins: in S8 an event in time is measured from the second key on.
-fn began_field(resting: Resting, event: Event, late: bool) -> u64 {
-    let stamp = event.stamp;
-    match resting {
-        Resting::S1 => stamp.0,
-        Resting::S8(_, _, _, k, r) => if late { r.0 } else { k.0 },
-        _ => margins::began(resting).0,
-    }
-}
-
-// Where it ends: with the deadline, if that came before the event.
-fn until_field(event: Event, late: bool, due: Due) -> u64 {
-    let stamp = event.stamp;
-    match due {
-        Due::Never => stamp.0,
-        Due::At(deadline) => if late { deadline.0 } else { stamp.0 },
-    }
-}
-
-fn keep_time(rows: &mut [u64], i: u64, resting: Resting, event: Event, late: bool, due: Due) {
-    set(rows, i, BEGAN, began_field(resting, event, late));
-    set(rows, i, UNTIL, until_field(event, late, due));
-}
-
-// How close a decision was, of those that are drawn: what was committed, and a release that left it open.
-fn drawn(margin: Margin, items: Items, after: Machine) -> Margin {
-    let next = after.resting;
-    if others::is_none(items) {
-        if !others::is_released(next) {
-            return others::no_margin(NONE);
-        }
-    }
-    margin
-}
-
-// An event's kind; a repeat is drawn as a tick, which is not drawn.
-fn kind_field(held: u32, event: Event) -> u64 {
-    let key = event.key;
-    if event.kind == 1 {
-        if held::is_held(held, key) {
-            return 6;
-        }
-    }
-    event.kind as u64
-}
-
-fn keep_event(rows: &mut [u64], i: u64, held: u32, event: Event) {
-    let stamp = event.stamp;
-    let key = event.key;
-    set(rows, i, STAMP, stamp.0);
-    set(rows, i, KIND, kind_field(held, event));
-    set(rows, i, KEY, key.0 as u64);
-}
-
-fn kept(item: Item) -> u64 {
-    let word = layout::word(item);
-    if word == 0 {
-        return EMPTY;
-    }
-    word as u64
-}
-
-fn first_kept(items: Items) -> u64 {
-    match items {
-        Items::None => 0,
-        Items::One(item) => kept(item),
-        Items::Two(item, _) => kept(item),
-    }
-}
-
-fn second_kept(items: Items) -> u64 {
-    match items {
-        Items::Two(_, item) => kept(item),
-        _ => 0,
-    }
-}
-
-fn keep_items(rows: &mut [u64], i: u64, items: Items, margin: Margin) {
-    set(rows, i, FIRST, first_kept(items));
-    set(rows, i, SECOND, second_kept(items));
-    set(rows, i, MARGIN, margin.ms);
-    set(rows, i, LATER, if margin.later { 1 } else { 0 });
-}
-
-// Keeps an accepted event as number i.
-pub fn keep(
-    rows: &mut [u64],
-    i: u64,
-    list: &[u32],
-    times: Times,
-    machine: Machine,
-    event: Event,
-    items: Items,
-    after: Machine,
-) {
-    let resting = machine.resting;
-    let numbers = why::numbers_at(list, times, machine, event);
-    let due = numbers.due;
-    let margin = others::margin_of(list, times, machine, event, items, after);
-    keep_event(rows, i, machine.held, event);
-    keep_items(rows, i, items, drawn(margin, items, after));
-    keep_time(rows, i, resting, event, numbers.late, due);
-    set(
-        rows,
-        i,
-        DUE,
-        due_field(why::deadline_of(list, times, after)),
-    );
-}
-
-// Where a stamp stands.
-fn across(span: Span, stamp: u64) -> u64 {
-    let first = span.first;
-    let last = span.last;
-    if stamp <= first {
-        return LEFT;
-    }
-    if last <= stamp {
-        return RIGHT;
-    }
-    if last < 1_000_000_000_001 {
-        let share = (stamp - first) * (RIGHT - LEFT) / (last - first);
-        return if share < RIGHT - LEFT {
-            LEFT + share
-        } else {
-            RIGHT
-        };
-    }
-    LEFT
-}
-
-fn say_at(stdout: Stdout, name: &[u8], n: u64) {
-    say(stdout, name);
-    say(stdout, b"=\"");
-    say_number(stdout, n);
-    say(stdout, b"\"");
-}
-
-// The front of an element.
-fn say_class(stdout: Stdout, element: &[u8], class: &[u8]) {
-    say(stdout, element);
-    say(stdout, b" class=\"");
-    say(stdout, class);
-    say(stdout, b"\"");
-}
-
-// A word in XML, in which some characters are written by name, and two can't stand at all.
-fn say_escaped(stdout: Stdout, word: u16) {
-    match word {
-        0 => {}
-        1 => say(stdout, b"&lt;L&gt;"),
-        2 => say(stdout, b"&lt;R&gt;"),
-        38 => say(stdout, b"&amp;"),
-        60 => say(stdout, b"&lt;"),
-        62 => say(stdout, b"&gt;"),
-        65534 => say(stdout, b"?"),
-        65535 => say(stdout, b"?"),
-        _ => say_word(stdout, word),
-    }
-}
-
-// The same of what is kept; an empty face as `-`.
-fn say_kept(stdout: Stdout, word: u64) {
-    if word < EMPTY {
-        say_escaped(stdout, word as u16);
-        return;
-    }
-    say(stdout, b"-");
 }
 
 // A bar from x to its right end.
-fn print_bar(stdout: Stdout, class: &[u8], x: u64, y: u64, right: u64) {
-    let width = if x < right { right - x } else { 1 };
-    say_class(stdout, b"<rect", class);
-    say_at(stdout, b" x", x);
-    say_at(stdout, b" y", y);
-    say_at(stdout, b" width", width);
-    say(stdout, b" height=\"18\"/>\n");
+fn bar<W: fmt::Write>(
+    f: &mut Formatter<W>,
+    class: &str,
+    x: u64,
+    y: u64,
+    right: u64,
+) -> fmt::Result {
+    let width = right.saturating_sub(x).max(1);
+    writeln!(
+        f,
+        "<rect class=\"{class}\" x=\"{x}\" y=\"{y}\" width=\"{width}\" height=\"18\"/>"
+    )
 }
 
-fn print_line(stdout: Stdout, class: &[u8], x: u64, y: u64, right: u64, bottom: u64) {
-    say_class(stdout, b"<line", class);
-    say_at(stdout, b" x1", x);
-    say_at(stdout, b" y1", y);
-    say_at(stdout, b" x2", right);
-    say_at(stdout, b" y2", bottom);
-    say(stdout, b"/>\n");
+fn line<W: fmt::Write>(
+    f: &mut Formatter<W>,
+    class: &str,
+    x: u64,
+    y: u64,
+    right: u64,
+    bottom: u64,
+) -> fmt::Result {
+    writeln!(
+        f,
+        "<line class=\"{class}\" x1=\"{x}\" y1=\"{y}\" x2=\"{right}\" y2=\"{bottom}\"/>"
+    )
 }
 
-// So far inside a bar.
-fn inside(x: u64, by: u64) -> u64 {
-    if x < 2000 {
-        if by < 2000 {
-            return x + by;
-        }
-    }
-    x
+fn text<W: fmt::Write, T: fmt::Display + Drop>(
+    f: &mut Formatter<W>,
+    class: &str,
+    x: u64,
+    y: u64,
+    text: T,
+) -> fmt::Result {
+    writeln!(
+        f,
+        "<text class=\"{class}\" x=\"{x}\" y=\"{y}\">{text}</text>"
+    )
 }
 
-// The front of a text.
-fn say_text(stdout: Stdout, class: &[u8], x: u64, y: u64) {
-    say_class(stdout, b"<text", class);
-    say_at(stdout, b" x", x);
-    say_at(stdout, b" y", y);
-    say(stdout, b">");
+// A key's bar in its row, with its number and its plain face.
+fn letter<W: fmt::Write>(f: &mut Formatter<W>, key: Key, x: u64, right: u64) -> fmt::Result
+    requires { x ≤ 1140 }
+{
+    let y = match key.0 {
+        0..10 => ROW_B,
+        10..20 => ROW_C,
+        _ => ROW_D,
+    };
+    bar(f, "letter", x, y, right)?;
+    let face = Escaped(layout::code_point(key, Face::Plain));
+    text(f, "name", x + 2, y + 14, format_args!("{} {face}", key.0))
 }
 
-fn print_words(stdout: Stdout, class: &[u8], x: u64, y: u64, text: &[u8]) {
-    say_text(stdout, class, x, y);
-    say(stdout, text);
-    say(stdout, b"</text>\n");
-}
-
-fn print_time(stdout: Stdout, class: &[u8], x: u64, y: u64, n: u64) {
-    say_text(stdout, class, x, y);
-    say_number(stdout, n);
-    say(stdout, b" ms</text>\n");
-}
-
-fn print_margin(stdout: Stdout, x: u64, margin: u64, later: bool) {
-    say_text(stdout, b"margin", x, ROW_MARGIN + 12);
-    say_number(stdout, margin);
-    summary::say_side(stdout, later);
-    say(stdout, b"</text>\n");
-}
-
-fn print_both(stdout: Stdout, x: u64, word: u64, other: u64) {
-    say_text(stdout, b"line", x, ROW_LINE);
-    say_kept(stdout, word);
-    say_kept(stdout, other);
-    say(stdout, b"</text>\n");
-}
-
-// A key's number and its plain face, in a bar.
-fn print_name(stdout: Stdout, x: u64, y: u64, key: u64, word: u16) {
-    say_text(stdout, b"name", inside(x, 2), inside(y, 14));
-    say_number(stdout, key);
-    say(stdout, b" ");
-    say_escaped(stdout, word);
-    say(stdout, b"</text>\n");
-}
-
-// Whether event number j releases what event number i pressed.
-fn releases(rows: &[u64], i: u64, j: u64) -> bool {
-    let kind = field(rows, i, KIND);
-    if kind < 4 {
-        if field(rows, j, KIND) == kind + 1 {
-            return field(rows, j, KEY) == field(rows, i, KEY);
-        }
-    }
-    false
-}
-
-// The event that releases what event number i pressed; where there is none, their number.
-fn release_of(rows: &[u64], i: u64, count: u64) -> u64 {
-    let mut j = i;
-    while j < count {
-        if releases(rows, i, j) {
-            return j;
-        }
-        j += 1;
-    }
-    j
-}
-
-// The stamp up to which a press lasts.
-fn lasts_to(rows: &[u64], i: u64, count: u64, last: u64) -> u64 {
-    let j = release_of(rows, i, count);
-    if j < count {
-        return field(rows, j, STAMP);
-    }
-    last
-}
-
-fn letter_row(key: u64) -> u64 {
-    if key < 10 {
-        return ROW_B;
-    }
-    if key < 20 {
-        return ROW_C;
-    }
-    ROW_D
-}
-
-fn print_letter(stdout: Stdout, key: u64, x: u64, right: u64) {
-    if key < 31 {
-        let y = letter_row(key);
-        print_bar(stdout, b"letter", x, y, right);
-        print_name(
-            stdout,
-            x,
-            y,
-            key,
-            layout::code_point(Key(key as u8), Face::Plain),
-        );
-    }
-}
-
-fn print_thumb(stdout: Stdout, key: u64, x: u64, right: u64) {
-    if key == 0 {
-        print_bar(stdout, b"thumb", x, ROW_L, right);
-        return;
-    }
-    print_bar(stdout, b"thumb", x, ROW_R, right);
-}
-
-fn draw_press(stdout: Stdout, kind: u64, key: u64, x: u64, right: u64) {
-    match kind {
-        1 => print_letter(stdout, key, x, right),
-        3 => print_thumb(stdout, key, x, right),
-        5 => print_words(stdout, b"name", x, ROW_DUE, b"fn"),
-        _ => {}
-    }
-}
-
-// The bar of a press.
-fn print_press(stdout: Stdout, rows: &[u64], i: u64, count: u64, span: Span) {
-    let x = across(span, field(rows, i, STAMP));
-    let right = across(span, lasts_to(rows, i, count, span.last));
-    draw_press(stdout, field(rows, i, KIND), field(rows, i, KEY), x, right);
+fn time<W: fmt::Write>(f: &mut Formatter<W>, class: &str, x: u64, y: u64, ms: u64) -> fmt::Result {
+    text(f, class, x, y, format_args!("{ms} ms"))
 }
 
 // A tick where a deadline was set, if it lies in the picture.
-fn print_deadline(stdout: Stdout, rows: &[u64], i: u64, span: Span) {
-    let due = field(rows, i, DUE);
-    if due == 0 {
-        return;
-    }
-    if due - 1 <= span.last {
-        let x = across(span, due - 1);
-        print_line(stdout, b"due", x, ROW_DUE - 10, x, ROW_DUE + 4);
+fn deadline<W: fmt::Write>(f: &mut Formatter<W>, span: Span, event: &Drawn) -> fmt::Result {
+    match event.due {
+        Some(due) if due <= span.last => {
+            let x = span.across(due);
+            line(f, "due", x, ROW_DUE - 10, x, ROW_DUE + 4)
+        }
+        _ => Ok(()),
     }
 }
 
-// The time that decided, and how many milliseconds would have turned the decision.
-fn print_decision(stdout: Stdout, rows: &[u64], i: u64, x: u64, span: Span) {
-    let until = field(rows, i, UNTIL);
-    let began = field(rows, i, BEGAN);
-    let margin = field(rows, i, MARGIN);
-    if margin < NONE {
-        print_margin(stdout, x, margin, field(rows, i, LATER) == 1);
-        if began < until {
-            let right = across(span, until);
-            print_line(
-                stdout,
-                b"gap",
-                across(span, began),
-                ROW_GAP - 12,
-                right,
-                ROW_GAP - 12,
-            );
-            print_time(stdout, b"small middle", right, ROW_GAP + 4, until - began);
+// What an event committed, the time that decided, and how many milliseconds would have turned the decision.
+fn decision<W: fmt::Write>(f: &mut Formatter<W>, span: Span, event: &Drawn) -> fmt::Result {
+    let x = span.across(event.stamp);
+    if let [Some(word), other] = event.words {
+        write!(
+            f,
+            "<text class=\"line\" x=\"{x}\" y=\"{ROW_LINE}\">{}",
+            Escaped(word)
+        )?;
+        if let Some(other) = other {
+            write!(f, "{}", Escaped(other))?;
+        }
+        f.write_str("</text>\n")?;
+    }
+    let Some(margin) = event.margin else {
+        return Ok(());
+    };
+    text(f, "margin", x, ROW_MARGIN + 12, margin.shift)?;
+    if event.began < event.until {
+        let right = span.across(event.until);
+        line(
+            f,
+            "gap",
+            span.across(event.began),
+            ROW_GAP - 12,
+            right,
+            ROW_GAP - 12,
+        )?;
+        let gap = waits::lag(event.began, event.until).0;
+        time(f, "small middle", right, ROW_GAP + 4, gap)?;
+    }
+    Ok(())
+}
+
+// A word in XML, in which some characters are written by name, and two can't stand at all.
+#[derive(Clone, Copy)]
+struct Escaped(u16);
+
+impl fmt::Display for Escaped {
+    fn fmt<W: fmt::Write>(&self, f: &mut Formatter<W>) -> fmt::Result {
+        match self.0 {
+            1 => f.write_str("&lt;L&gt;"),
+            2 => f.write_str("&lt;R&gt;"),
+            0x26 => f.write_str("&amp;"),
+            0x3C => f.write_str("&lt;"),
+            0x3E => f.write_str("&gt;"),
+            0xFFFE | 0xFFFF => f.write_str("?"),
+            word => write!(f, "{}", Word(word)),
         }
     }
 }
 
-// What an event committed.
-fn print_commit(stdout: Stdout, rows: &[u64], i: u64, span: Span) {
-    let word = field(rows, i, FIRST);
-    let other = field(rows, i, SECOND);
-    let x = across(span, field(rows, i, STAMP));
-    if word != 0 {
-        print_both(stdout, x, word, other);
-    }
-    print_decision(stdout, rows, i, x, span);
-}
-
-fn print_event(stdout: Stdout, rows: &[u64], i: u64, count: u64, span: Span) {
-    print_press(stdout, rows, i, count, span);
-    print_deadline(stdout, rows, i, span);
-    print_commit(stdout, rows, i, span);
-}
-
-fn print_events(stdout: Stdout, rows: &[u64], count: u64, span: Span) {
-    let mut i = 0;
-    while i < count {
-        print_event(stdout, rows, i, count, span);
-        i += 1;
-    }
-}
-
-fn print_ends(stdout: Stdout, span: Span) {
-    print_time(stdout, b"small", LEFT, 18, span.first);
-    print_time(stdout, b"small end", RIGHT, 18, span.last);
-}
-
 // What every picture has: how it looks, and the names of its rows.
-fn print_head(stdout: Stdout) {
-    say(
-        stdout,
-        b"<svg xmlns=\"http://www.w3.org/2000/svg\" viewBox=\"0 0 1200 280\" width=\"1200\" height=\"280\">
+const HEAD: &str =
+    "<svg xmlns=\"http://www.w3.org/2000/svg\" viewBox=\"0 0 1200 280\" width=\"1200\" height=\"280\">
 <style>
 text{font-family:sans-serif;font-size:13px}.line{font-size:20px;text-anchor:middle}.end{text-anchor:end}
 .small{font-size:12px;fill:#555}.middle{text-anchor:middle}.margin{font-size:12px;fill:#b00;text-anchor:middle}
@@ -515,24 +354,4 @@ text{font-family:sans-serif;font-size:13px}.line{font-size:20px;text-anchor:midd
 <text class=\"small\" x=\"4\" y=\"212\">committed</text>
 <text class=\"small\" x=\"4\" y=\"236\">decided by</text>
 <text class=\"small\" x=\"4\" y=\"264\">margin</text>
-",
-    );
-}
-
-// The picture of so many events.
-pub fn print_picture(stdout: Stdout, rows: &[u64], count: u64) {
-    let first = field(rows, 0, STAMP);
-    let last = if 0 < count {
-        field(rows, count - 1, STAMP)
-    } else {
-        first
-    };
-    let span = Span {
-        first: first,
-        last: last,
-    };
-    print_head(stdout);
-    print_ends(stdout, span);
-    print_events(stdout, rows, count, span);
-    say(stdout, b"</svg>\n");
-}
+";

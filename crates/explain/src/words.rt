@@ -1,226 +1,115 @@
-// Words and numbers of an explanation: on standard output, or put at a place of a run that is written later.
-use engine::Items;
-use rules::{Event, Item, Key, Lag, Stamp, Thumb};
-use status_line::{put_bytes, put_number};
-use std::io::Stdout;
+// The words of an explanation: how what is named in a sentence is printed.
+use rules::{Item, Items, Key, Lag, Thumb};
+use std::fmt;
+use std::fmt::Formatter;
 
-pub fn say(stdout: Stdout, bytes: &[u8]) {
-    let _ = stdout.write_all(bytes);
-}
+// Something as a sentence names it.
+#[derive(Clone, Copy)]
+pub struct Said<T>(pub T);
 
-// The front of some bytes, if there are so many.
-pub fn say_front(stdout: Stdout, bytes: &[u8], n: usize) {
-    if n <= bytes.len() {
-        let _ = stdout.write_all(&bytes[..n]);
+impl fmt::Display for Said<Key> {
+    fn fmt<W: fmt::Write>(&self, f: &mut Formatter<W>) -> fmt::Result {
+        write!(f, "key {}", self.0.0)
     }
 }
 
-pub fn say_number(stdout: Stdout, n: u64) {
-    let _ = stdout.print(n);
+impl fmt::Display for Said<Thumb> {
+    fn fmt<W: fmt::Write>(&self, f: &mut Formatter<W>) -> fmt::Result {
+        f.write_str(match self.0 {
+            Thumb::Left => "left thumb",
+            Thumb::Right => "right thumb",
+        })
+    }
 }
 
-// The columns of a number, 13 for one that has more: no stamp that is accepted has.
-fn columns_of(n: u64) -> usize {
-    if n < 1000 {
-        return if n < 10 {
-            1
-        } else {
-            if n < 100 { 2 } else { 3 }
-        };
+impl fmt::Display for Said<Lag> {
+    fn fmt<W: fmt::Write>(&self, f: &mut Formatter<W>) -> fmt::Result {
+        write!(f, "{} ms", self.0.0)
     }
-    if n < 1_000_000 {
-        return if n < 10_000 {
-            4
-        } else {
-            if n < 100_000 { 5 } else { 6 }
-        };
-    }
-    if n < 1_000_000_000 {
-        return if n < 10_000_000 {
-            7
-        } else {
-            if n < 100_000_000 { 8 } else { 9 }
-        };
-    }
-    if n < 1_000_000_000_000 {
-        return if n < 10_000_000_000 {
-            10
-        } else {
-            if n < 100_000_000_000 { 11 } else { 12 }
-        };
-    }
-    13
 }
 
-// A count and what is counted, one or more of it.
-pub fn say_counted(stdout: Stdout, n: u64, one: &[u8], more: &[u8]) {
-    say_number(stdout, n);
-    if n == 1 {
-        say(stdout, one);
-        return;
-    }
-    say(stdout, more);
-}
-
-pub fn say_ms(stdout: Stdout, lag: Lag) {
-    say_number(stdout, lag.0);
-    say(stdout, b" ms");
-}
-
-// A byte so many times, at most 64.
-pub fn say_many(stdout: Stdout, byte: u8, n: usize) {
-    let bytes = [byte; 64];
-    say_front(stdout, &bytes, n);
-}
-
-// The place behind blanks up to a column, behind one where it is passed. They stand there already.
-pub fn padded(at: usize, used: usize, column: usize) -> usize {
-    let blanks = if used < column { column - used } else { 1 };
-    if at < 1000 {
-        if blanks < 1000 {
-            return at + blanks;
+impl fmt::Display for Said<Item> {
+    fn fmt<W: fmt::Write>(&self, f: &mut Formatter<W>) -> fmt::Result {
+        match layout::word(self.0) {
+            0 => f.write_str("an empty face"),
+            word => write!(f, "{}", Word(word)),
         }
     }
-    at
 }
 
-// So many columns and those that a word takes: a character of the layout two, a mark `<L>` three, an empty face, `-`, one. No line has
-// a thousand.
-pub fn wider(used: usize, word: u16) -> usize {
-    if 1000 <= used {
-        return used;
+impl fmt::Display for Said<Items> {
+    fn fmt<W: fmt::Write>(&self, f: &mut Formatter<W>) -> fmt::Result {
+        match self.0 {
+            Items::None => f.write_str("nothing yet"),
+            Items::One(item) => write!(f, "{}", Said(item)),
+            Items::Two(item, other) => write!(f, "{}{}", Said(item), Said(other)),
+        }
     }
-    match word {
-        0 => used + 1,
-        1 => used + 3,
-        2 => used + 3,
-        _ => used + 2,
-    }
-}
-
-pub fn say_thumb(stdout: Stdout, thumb: Thumb) {
-    match thumb {
-        Thumb::Left => say(stdout, b"left thumb"),
-        Thumb::Right => say(stdout, b"right thumb"),
-    }
-}
-
-pub fn say_key(stdout: Stdout, key: Key) {
-    say(stdout, b"key ");
-    say_number(stdout, key.0 as u64);
 }
 
 // A word as it is printed; an empty face as `-`.
-pub fn say_word(stdout: Stdout, word: u16) {
-    let mut bytes = [b'-'; 4];
-    if word == 0 {
-        say_front(stdout, &bytes, 1);
-        return;
-    }
-    let n = text::put(&mut bytes, 0, word);
-    say_front(stdout, &bytes, n);
-}
+#[derive(Clone, Copy)]
+pub struct Word(pub u16);
 
-// An item in a sentence.
-fn say_item(stdout: Stdout, item: Item) {
-    let word = layout::word(item);
-    if word == 0 {
-        say(stdout, b"an empty face");
-        return;
-    }
-    say_word(stdout, word);
-}
-
-pub fn say_items(stdout: Stdout, items: Items) {
-    match items {
-        Items::None => say(stdout, b"nothing yet"),
-        Items::One(item) => say_item(stdout, item),
-        Items::Two(item, other) => {
-            say_item(stdout, item);
-            say_item(stdout, other);
+impl Word {
+    // The columns that it takes: a character of the layout two, a mark three, an empty face one.
+    fn columns(self) -> usize {
+        match self.0 {
+            0 => 1,
+            1 | 2 => 3,
+            _ => 2,
         }
     }
 }
 
-// A word as it is printed at a place; an empty face as `-`.
-pub fn put_word(out: &mut [u8], at: usize, word: u16) -> usize {
-    if word == 0 {
-        return put_bytes(out, at, b"-");
-    }
-    text::put(out, at, word)
-}
-
-// What a release has behind it.
-fn put_up(out: &mut [u8], at: usize, used: usize) -> usize {
-    let behind = put_bytes(out, at, b" up");
-    padded(behind, used, 6)
-}
-
-fn put_side(out: &mut [u8], at: usize, key: Key) -> usize {
-    if key.0 == 0 {
-        return put_bytes(out, at, b"L");
-    }
-    put_bytes(out, at, b"R")
-}
-
-fn put_key(out: &mut [u8], at: usize, key: Key, up: bool) -> usize {
-    let behind = put_number(out, at, key.0 as u64);
-    let used = columns_of(key.0 as u64);
-    if up {
-        return put_up(out, behind, used);
-    }
-    padded(behind, used, 9)
-}
-
-fn put_thumb(out: &mut [u8], at: usize, key: Key, up: bool) -> usize {
-    let behind = put_side(out, at, key);
-    if up {
-        return put_up(out, behind, 1);
-    }
-    padded(behind, 1, 9)
-}
-
-// Whether an event has a name in the notation.
-fn has_name(kind: u8, key: Key) -> bool {
-    match kind {
-        1 => true,
-        2 => true,
-        3 => key.0 < 2,
-        4 => key.0 < 2,
-        5 => key.0 == 0,
-        6 => key.0 == 0,
-        _ => false,
+impl fmt::Display for Word {
+    fn fmt<W: fmt::Write>(&self, f: &mut Formatter<W>) -> fmt::Result {
+        match self.0 {
+            0 => f.write_str("-"),
+            1 => f.write_str("<L>"),
+            2 => f.write_str("<R>"),
+            // No pair of an accepted list, and no face, has a surrogate.
+            word => f.write_char(char::from_u32(word as u32).unwrap_or('?')),
+        }
     }
 }
 
-// A record's kind and key as they stand there.
-fn put_nameless(out: &mut [u8], at: usize, kind: u8, key: Key) -> usize {
-    let before_kind = put_bytes(out, at, b"kind ");
-    let behind_kind = put_number(out, before_kind, kind as u64);
-    let before_key = put_bytes(out, behind_kind, b" key ");
-    let behind_key = put_number(out, before_key, key.0 as u64);
-    padded(behind_key, 9, 9)
-}
+// A count and what is counted, one or more of it.
+#[derive(Clone, Copy)]
+pub struct Counted(pub u64, pub &'static str, pub &'static str);
 
-// An event without its stamp, in nine columns: `21`, `21 up`, `R`, `R up`, `fn`, `tick`.
-pub fn put_event(out: &mut [u8], at: usize, event: Event) -> usize {
-    let key = event.key;
-    let kind = event.kind;
-    if !has_name(kind, key) {
-        return put_nameless(out, at, kind, key);
-    }
-    match kind {
-        1 => put_key(out, at, key, false),
-        2 => put_key(out, at, key, true),
-        3 => put_thumb(out, at, key, false),
-        4 => put_thumb(out, at, key, true),
-        5 => put_bytes(out, at, b"fn       "),
-        _ => put_bytes(out, at, b"tick     "),
+impl fmt::Display for Counted {
+    fn fmt<W: fmt::Write>(&self, f: &mut Formatter<W>) -> fmt::Result {
+        let Counted(count, one, more) = *self;
+        let name = if count == 1 { one } else { more };
+        write!(f, "{count} {name}")
     }
 }
 
-// A stamp in fourteen columns.
-pub fn put_stamp(out: &mut [u8], at: usize, stamp: Stamp) -> usize {
-    let behind = put_number(out, at, stamp.0);
-    padded(behind, columns_of(stamp.0), 14)
+// A field of a table, and the columns that what is written there takes.
+#[derive(Drop)]
+pub struct Field<'a, W> {
+    f: &'a mut Formatter<W>,
+    columns: usize,
+}
+
+impl<'a, W: fmt::Write> Field<'a, W> {
+    pub fn new(f: &'a mut Formatter<W>) -> Field<'a, W> {
+        Field { f, columns: 0 }
+    }
+
+    pub fn put<T: fmt::Display + Drop>(&mut self, text: T, columns: usize) -> fmt::Result {
+        self.columns = self.columns.saturating_add(columns);
+        write!(self.f, "{text}")
+    }
+
+    pub fn word(&mut self, word: u16) -> fmt::Result {
+        self.put(Word(word), Word(word).columns())
+    }
+
+    // Blanks up to a width; where that is passed, one.
+    pub fn pad(self, width: usize) -> fmt::Result {
+        let Field { f, columns } = self;
+        f.write_repeated(" ", width.saturating_sub(columns).max(1))
+    }
 }

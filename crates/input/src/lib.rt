@@ -1,45 +1,53 @@
 // What a program is given: bytes, of standard input or of a file that an argument names, one read at a time or to their end, into a lent
 // buffer; and what the arguments ask for.
+//
+// And what the programs that work on one input have in common: to open it, to run the program's own step on it, and to say why where it
+// can't be read or what comes of it can't be written (`Program`).
 #![tactic(auto)]
 
-ghost use Rattle.std.specs.Prelude.{length, ◌≤◌};
+ghost use Rattle.std.specs.Prelude.{length, ◌≡◌, ◌≤◌, OnOk, All};
 ghost use Rattle.io.specs.Counts.{IsPrefixLen};
 ghost use Rattle.input.specs.Reads.{Taken, Within};
+ghost use Rattle.input.specs.declared.Failure.TheVariants as failure;
 
 use std::env::FillError;
+use std::fmt::Display;
 use std::fs::File;
 use std::io::{Error, ErrorKind, Print, Read, Stderr, Stdin, Write};
 use std::rt::{Env, Files};
 
-// What one read gave.
-#[derive(Clone, Copy)]
-pub enum Piece {
-    // So many bytes, at least one, at the buffer's front.
-    Bytes(usize),
-    End,
-    Failed(Error),
+// A buffer of zeros. In a proof the zeros of `[0; 4194432]` are counted one by one; here the length is known as it is said.
+pub fn buffer<T: Copy, const N: usize>(zero: T) -> [T; N]
+    ensures len { length result ≡ N }
+    ensures filled { All (λ x. x ≡ zero) result }
+{
+    [zero; N]
 }
 
-// What the whole input gave.
-#[derive(Clone, Copy)]
-pub enum Input {
-    // It ended, and so many bytes at the buffer's front are all of it.
-    Whole(usize),
-    // Its first bytes fill the buffer, and more follow.
-    Longer,
-    // A read failed.
-    Failed(Error),
-}
-
-// What the arguments of a program that works on one input ask for.
-#[derive(Clone, Copy)]
-pub enum Asked {
-    // What the program is for, on the file that this argument names, or for 0 on standard input.
-    Work(usize),
-    // How to use it.
+// Why a program does not work on its input but says how to use it.
+#[derive(Clone, Copy, PartialEq, Eq)]
+pub enum Usage {
+    // It is asked to.
     Help,
-    // Nothing that is understood.
+    // The arguments are nothing that is understood.
     Unclear,
+}
+
+// Why a program breaks off.
+#[derive(Clone, Copy)]
+pub enum Failure {
+    // The input can't be opened, or read to its end.
+    Input(Error),
+    // Standard output can't be written.
+    Output(Error),
+}
+
+impl From<Error> for Failure {
+    ghost from_gives = { λ error made. made ≡ failure.Input error };
+
+    fn from(error: Error) -> Self {
+        Self::Input(error)
+    }
 }
 
 // An input that is open.
@@ -58,188 +66,193 @@ impl Read for Source {
     }
 }
 
-// One read of an open input. It brings what is there, so that a slow line is not waited for; into a buffer of no bytes it brings nothing,
-// as at the end.
-pub fn read_from<R: Read>(from: &mut R, buf: &mut [u8]) -> Piece
+// One read of an open input: so many bytes, at least one, at the buffer's front, or none at the end. It brings what is there, so that a slow
+// line is not waited for; into a buffer of no bytes it brings nothing, as at the end.
+pub fn read_from<R: Read>(from: &mut R, buf: &mut [u8]) -> std::io::Result<Option<usize>>
     ensures { Taken (length buf.old) result }
 {
-    match from.read(buf) {
-        Ok(0) => Piece::End,
-        Ok(n) => Piece::Bytes(n),
-        Err(error) => Piece::Failed(error),
+    match from.read(buf)? {
+        0 => Ok(None),
+        n => Ok(Some(n)),
     }
 }
 
-// Behind n bytes that fill the buffer: one read more tells input that ends there from a longer one.
-fn behind<R: Read>(from: &mut R, n: usize) -> Input
-    ensures { Within n result }
-{
-    let mut next = [0u8; 1];
-    match read_from(from, &mut next) {
-        Piece::Bytes(_) => Input::Longer,
-        Piece::End => Input::Whole(n),
-        Piece::Failed(error) => Input::Failed(error),
-    }
-}
-
-// Reads an open input to its end, or until the buffer is full.
-pub fn read<R: Read>(from: &mut R, buf: &mut [u8]) -> Input
+// Reads an open input to its end: all of it stands at the buffer's front. None where that is filled by its first bytes, and more follow.
+pub fn read<'a, R: Read>(from: &mut R, buf: &'a mut [u8]) -> std::io::Result<Option<&'a [u8]>>
     ensures { Within (length buf.old) result }
 {
+    // It grows by as much as a read brings, so no iterator counts it.
     let mut n = 0;
     while n < buf.len() {
-        match read_from(from, &mut buf[n..]) {
-            Piece::Bytes(k) => n += k,
-            Piece::End => return Input::Whole(n),
-            Piece::Failed(error) => return Input::Failed(error),
+        match read_from(from, &mut buf[n..])? {
+            Some(k) => n += k,
+            None => return Ok(Some(&buf[..n])),
         }
     }
-    behind(from, n)
+    // One read more tells input that ends there from a longer one.
+    match read_from(from, &mut [0])? {
+        None => Ok(Some(buf)),
+        Some(_) => Ok(None),
+    }
 }
 
-// Puts argument i at the front of a buffer. Answers how many bytes, 0 where there is none or it is longer.
-pub fn argument<E: Env>(rt: &E, i: usize, buf: &mut [u8]) -> usize
-    ensures { IsPrefixLen result buf.new }
+// An argument, put at the front of a buffer: none where there is no argument i, or it is longer.
+pub fn argument<'a, E: Env>(rt: &E, i: usize, buf: &'a mut [u8]) -> &'a [u8]
+    ensures { length result.now ≤ length buf.old }
 {
-    match rt.arg(i, buf) {
-        Ok(n) => n,
-        Err(_) => 0,
-    }
+    let n = rt.arg(i, buf).unwrap_or(0);
+    &buf[..n]
 }
 
 // Whether there is an argument i.
 fn is_given<E: Env>(rt: &E, i: usize) -> bool {
     let mut buf = io::buffer();
-    match rt.arg(i, &mut buf) {
-        Err(FillError::NotPresent) => false,
-        _ => true,
-    }
+    !matches!(rt.arg(i, &mut buf), Err(FillError::NotPresent))
 }
 
 // How many arguments there are, the program's own name among them, but no more than are counted.
 pub fn count_arguments<E: Env>(rt: &E, most: usize) -> usize
     ensures { result ≤ most }
 {
-    let mut n = 0;
-    while n < most {
-        if !is_given(rt, n) {
-            return n;
-        }
-        n += 1;
-    }
-    n
+    (0..most).find(|i| !is_given(rt, *i)).unwrap_or(most)
 }
 
-// Opens a file by its name, which is UTF-8.
-fn open_file(rt: HostRuntime, name: &[u8]) -> std::io::Result<Source> {
-    let Ok(path) = str::from_utf8(name) else {
+// Opens the file that an argument names, UTF-8, or standard input where none is asked for.
+fn open(rt: HostRuntime, file: Option<usize>) -> std::io::Result<Source> {
+    let Some(i) = file else {
+        return Ok(Source::Standard(rt.stdin()));
+    };
+    let mut buf = io::buffer();
+    let Ok(path) = str::from_utf8(argument(&rt, i, &mut buf)) else {
         return Err(Error::new(ErrorKind::InvalidInput, "a file's name is not UTF-8"));
     };
-    let file = File::open(&rt, path)?;
-    Ok(Source::Named(file))
+    Ok(Source::Named(File::open(&rt, path)?))
 }
 
-// Opens the file that argument i names, or takes standard input for 0.
-pub fn open(rt: HostRuntime, i: usize) -> std::io::Result<Source> {
-    if i == 0 {
-        return Ok(Source::Standard(rt.stdin()));
-    }
-    let mut buf = io::buffer();
-    let n = argument(&rt, i, &mut buf);
-    open_file(rt, &buf[..n])
-}
-
-// Copies a text to the front of a buffer, as far as both go. Answers how many bytes.
-fn put(buf: &mut [u8], text: &[u8]) -> usize
-    ensures { IsPrefixLen result buf.new }
-{
-    let mut n = 0;
-    while n < text.len() {
-        if buf.len() <= n {
-            return n;
-        }
-        buf[n] = text[n];
-        n += 1;
-    }
-    n
-}
-
-// What stands behind the program's name in a message about the input.
-fn put_name<E: Env>(rt: &E, buf: &mut [u8], i: usize) -> usize
-    ensures { IsPrefixLen result buf.new }
-{
-    if i == 0 {
-        return put(buf, b"standard input");
-    }
-    argument(rt, i, buf)
-}
-
-// Puts what a message calls the input to the front of a buffer: `PROGRAM: ` as given, and then the name that argument i is, or for 0
-// `standard input`. Answers how many bytes.
-pub fn label<E: Env>(rt: &E, program: &[u8], i: usize, buf: &mut [u8]) -> usize
-    ensures { IsPrefixLen result buf.new }
-{
-    let at = put(buf, program);
-    at + put_name(rt, &mut buf[at..], i)
-}
-
-// Puts std's words for an error to the front of a buffer, as far as they go. Answers how many bytes.
-fn put_error(buf: &mut [u8], error: Error) -> usize
+// Puts a text to the front of a buffer, as far as both go. Answers how many bytes.
+fn put<D: Display + Drop>(buf: &mut [u8], text: D) -> usize
     ensures { IsPrefixLen result buf.new }
 {
     let room = buf.len();
     let mut rest = &mut buf[..];
-    let _ = write!(rest, "{error}");
+    let _ = write!(rest, "{text}");
     let left = rest.len();
     room.saturating_sub(left)
 }
 
+// What a message calls the input: `PROGRAM: `, and then the name that an argument is, or `standard input`. At the front of a buffer.
+fn label<'a, E: Env>(rt: &E, program: &str, file: Option<usize>, buf: &'a mut [u8]) -> &'a [u8]
+    ensures { length result.now ≤ length buf.old }
+{
+    let at = put(buf, format_args!("{program}: "));
+    let n = match file {
+        Some(i) => argument(rt, i, &mut buf[at..]).len(),
+        None => put(&mut buf[at..], "standard input"),
+    };
+    &buf[..at + n]
+}
+
 // The system's words for an error: std's without the number behind them.
 fn words(text: &str) -> &str {
-    match text.split_once(" (os error ") {
-        Some((front, _)) => front,
-        None => text,
-    }
+    text.split_once(" (os error ")
+        .map_or(text, |(front, _)| front)
 }
 
-// Writes a line to standard error: what failed, as the caller names it, a colon and the system's words.
-pub fn fail(err: Stderr, what: &[u8], error: Error) {
-    let mut buf = [0u8; 320];
-    let n = put_error(&mut buf, error);
+// Ends a message that says what failed: a colon and the system's words.
+fn print_error(err: Stderr, error: Error) {
+    let mut buf = [0; 320];
+    let n = put(&mut buf, error);
     let text = str::from_utf8(&buf[..n]).unwrap_or("");
-    let _ = Print::write_all(&err, what);
-    let _ = Print::print(&err, ": ");
-    let _ = Print::println(&err, words(text));
+    let _ = println!(err; ": {}", words(text));
 }
 
-// Whether an argument can be a file's name: an option can't, nor what is empty.
-fn is_name(argument: &[u8]) -> bool {
-    if argument.len() == 0 {
-        return false;
-    }
-    argument[0] != b'-'
-}
-
-// What one argument asks for: how to use the program, or work on the file that it names. One that is longer than a path is unclear.
-pub fn read_argument<E: Env>(rt: &E, i: usize) -> Asked {
+// What one argument asks for: how to use the program, or work on the file that it names. An option or nothing is no name, nor is what is
+// longer than a path.
+pub fn read_argument<E: Env>(rt: &E, i: usize) -> Result<usize, Usage> {
     let mut buf = io::buffer();
-    let n = argument(rt, i, &mut buf);
-    let argument = &buf[..n];
-    if argument == b"--help".as_slice() {
-        return Asked::Help;
+    match argument(rt, i, &mut buf) {
+        b"--help" => Err(Usage::Help),
+        [] | [b'-', ..] => Err(Usage::Unclear),
+        _ => Ok(i),
     }
-    if is_name(argument) {
-        return Asked::Work(i);
-    }
-    Asked::Unclear
 }
 
-// What the arguments ask for, where the program takes none but a file's name, or `--help`.
-pub fn read_arguments<E: Env>(rt: &E) -> Asked {
+// What the arguments ask for, where the program takes none but a file's name, or `--help`: the argument that names the file, or none for
+// standard input.
+pub fn read_arguments<E: Env>(rt: &E) -> Result<Option<usize>, Usage> {
     // The program's own name is one of them.
     match count_arguments(rt, 3) {
-        0 | 1 => Asked::Work(0),
-        2 => read_argument(rt, 1),
-        _ => Asked::Unclear,
+        0 | 1 => Ok(None),
+        2 => read_argument(rt, 1).map(Some),
+        _ => Err(Usage::Unclear),
+    }
+}
+
+// A program that works on one input.
+#[derive(Clone, Copy)]
+pub struct Program {
+    pub name: &'static str,
+    pub usage: &'static str,
+}
+
+// Runs a step on the input that is asked for.
+fn attempt<F: FnOnce(&mut Source) -> Result<(), Failure>>(
+    rt: HostRuntime,
+    file: Option<usize>,
+    step: F,
+) -> Result<(), Failure>
+    requires { F.IsAlwaysCallable step }
+    ensures { OnOk result ((from : _) × (after : _) × F.post step from result after) }
+{
+    let mut from = open(rt, file)?;
+    step(&mut from)
+}
+
+impl Program {
+    // Runs a step on the input that the arguments name, or says how to use the program.
+    pub fn run<F: FnOnce(&mut Source) -> Result<(), Failure>>(self, rt: HostRuntime, step: F)
+        requires { F.IsAlwaysCallable step }
+    {
+        match read_arguments(&rt) {
+            Ok(file) => self.run_on(rt, file, step),
+            Err(usage) => self.print_usage(rt, usage),
+        }
+    }
+
+    // Runs a step on the file that an argument names, or on standard input. Where it breaks off, standard error says why.
+    pub fn run_on<F: FnOnce(&mut Source) -> Result<(), Failure>>(
+        self,
+        rt: HostRuntime,
+        file: Option<usize>,
+        step: F,
+    )
+        requires { F.IsAlwaysCallable step }
+    {
+        let mut buf = io::buffer();
+        let name = self.name;
+        let label = label(&rt, name, file, &mut buf);
+        let err = rt.stderr();
+        let Err(failure) = attempt(rt, file, step) else {
+            return;
+        };
+        match failure {
+            Failure::Input(error) => {
+                let _ = Print::write_all(&err, label);
+                print_error(err, error);
+            }
+            Failure::Output(error) => {
+                let _ = print!(err; "{name}: standard output");
+                print_error(err, error);
+            }
+        }
+    }
+
+    // Says how to use the program, where it is asked to on standard output.
+    pub fn print_usage(self, rt: HostRuntime, usage: Usage) {
+        let text = self.usage;
+        let _ = match usage {
+            Usage::Help => rt.stdout().print(text),
+            Usage::Unclear => rt.stderr().print(text),
+        };
     }
 }

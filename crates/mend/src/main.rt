@@ -5,13 +5,11 @@
 // error says why, and some of the log may have been written.
 #![tactic(auto)]
 
-mod messages;
-
-ghost use Rattle.std.specs.Prelude.{◌≡◌, length};
+ghost use Rattle.std.specs.Prelude.{◌≤◌, length};
 ghost use Rattle.mend.specs.Buffers.{longest};
 
-use input::{Asked, Input, Source};
-use std::io::{Stderr, Stdout};
+use input::{Failure, Program, Source};
+use meanings::Meaning;
 
 // The longest log that is mended.
 const LONGEST: usize = 1_048_576;
@@ -19,62 +17,57 @@ const LONGEST: usize = 1_048_576;
 // Two numbers for each of 1,000 dropped records.
 const LIST_ROOM: usize = 2_000;
 
-// A buffer as it is given: a parameter's length is known by its type, that of a new array would take too long to compute.
-fn with_log(log: [u8; LONGEST]) -> [u8; LONGEST]
-    ensures { longest ≡ length result }
+const MEND: Program = Program {
+    name: "mend",
+    usage: "usage: mend [DAMAGED] > LOG
+Copies the records of a log that the reader accepts after the ones already copied, and drops the others.
+Standard error lists the first 1000 dropped, `dropped N at OFFSET`, and says how many were dropped in all.
+If the first record is not good settings, or the second is a list of pairs that is not accepted, the log
+is refused: nothing is written, and standard error says `refused N`. So is one of more than 1048576 bytes.
+Without DAMAGED, standard input is read.
+",
+};
+
+// Says that a log that begins with these bytes and has more is too long.
+fn print_longer(rt: &impl Eprint, start: &[u8])
+    requires { longest ≤ length start.now }
 {
-    log
+    let _ = eprintln!(rt;
+        "mend: refused 9, nothing is written: the log is longer than 1048576 bytes"
+    );
 }
 
-// Writes a mended log; whether it could be written.
-fn print(stdout: Stdout, stderr: Stderr, log: &[u8]) -> bool {
-    match stdout.write_all(log) {
-        Ok(()) => true,
-        Err(error) => {
-            input::fail(stderr, b"mend: standard output", error);
-            false
-        }
+// Mends a log into a run that has room for all that is copied: it is no more than the log.
+fn mend_log(rt: &(impl Print + Eprint), log: &[u8], out: &mut [u8]) -> Result<(), Failure>
+    requires { length log.now ≤ length out.old }
+{
+    let mut list = [0; LIST_ROOM];
+    let mended = mender::mend(log, out, &mut list);
+    let number = mended.number;
+    if number != 0 {
+        let meaning = Meaning(number as u64);
+        let _ = eprintln!(rt; "mend: refused {number}, nothing is written: {meaning}");
+        return Ok(());
     }
+    rt.write_all(&out[..mended.bytes]).map_err(Failure::Output)?;
+    let (records, _) = list.as_chunks::<2>();
+    for [offset, number] in records.iter().take(mended.listed) {
+        let _ = eprintln!(rt; "mend: dropped {number} at {offset}: {}", Meaning(*number));
+    }
+    let _ = eprintln!(rt; "mend: {} dropped in all", mended.dropped);
+    Ok(())
 }
 
-// There is room for all that is copied: it is no more than the log.
-fn mend_log(stdout: Stdout, stderr: Stderr, log: &[u8], out: &mut [u8], list: &mut [u64]) {
-    let mended = mender::mend(log, out, list);
-    if mended.number == 0 {
-        let n = mended.bytes;
-        if print(stdout, stderr, &out[..n]) {
-            messages::print_dropped(stderr, list, mended.dropped);
-        }
-        return;
-    }
-    messages::print_refused(stderr, mended.number);
-}
-
-fn run(stdout: Stdout, stderr: Stderr, from: &mut Source, label: &[u8]) {
-    let mut log = with_log([0; LONGEST]);
-    let mut out = with_log([0; LONGEST]);
-    let mut list = [0u64; LIST_ROOM];
-    match input::read(from, &mut log) {
-        Input::Whole(n) => mend_log(stdout, stderr, &log[..n], &mut out, &mut list),
-        Input::Longer => messages::print_too_long(stderr),
-        Input::Failed(error) => input::fail(stderr, label, error),
-    }
-}
-
-// Runs on the file that argument i names, or for 0 on standard input.
-fn run_on(rt: HostRuntime, i: usize) {
-    let mut buf = io::buffer();
-    let n = input::label(&rt, b"mend: ", i, &mut buf);
-    match input::open(rt, i) {
-        Ok(mut from) => run(rt.stdout(), rt.stderr(), &mut from, &buf[..n]),
-        Err(error) => input::fail(rt.stderr(), &buf[..n], error),
-    }
+fn mend(rt: &(impl Print + Eprint), from: &mut Source) -> Result<(), Failure> {
+    let mut buf: [u8; LONGEST] = input::buffer(0);
+    let mut out: [u8; LONGEST] = input::buffer(0);
+    let Some(log) = input::read(from, &mut buf)? else {
+        print_longer(rt, &buf);
+        return Ok(());
+    };
+    mend_log(rt, log, &mut out)
 }
 
 fn main(rt: HostRuntime) {
-    match input::read_arguments(&rt) {
-        Asked::Work(i) => run_on(rt, i),
-        Asked::Help => messages::print_usage(&rt.stdout()),
-        Asked::Unclear => messages::print_usage(&rt.stderr()),
-    }
+    MEND.run(rt, |from| mend(&rt, from));
 }

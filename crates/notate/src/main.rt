@@ -6,89 +6,64 @@
 // output can't be written, standard error says why, and some of the text may have been written.
 #![tactic(auto)]
 
-mod messages;
-
-ghost use Rattle.std.specs.Prelude.{◌≤◌, ◌≡◌, length};
+ghost use Rattle.std.specs.Prelude.{◌≤◌, length};
 ghost use Rattle.notator.specs.Notates.{longest_log};
-ghost use Rattle.notate.specs.Texts.{text_room, HasText};
 
-use input::{Asked, Input, Source};
-use notator::{LONGEST_LOG, Notated};
-use std::io::{Stderr, Stdout};
+use input::{Failure, Program, Source};
+use meanings::Meaning;
+use notator::{LONGEST_LOG, ROOM_BESIDES, ROOM_PER_BYTE};
+use status_line::Printed;
 
 // Room for the text of every log that is read.
-const TEXT_ROOM: usize = 4194432;
+const TEXT_ROOM: usize = ROOM_PER_BYTE * LONGEST_LOG + ROOM_BESIDES;
 
-// Buffers as they are given: a parameter's length is known by its type, that of a new array would take too long to compute.
-fn with_log(log: [u8; LONGEST_LOG]) -> [u8; LONGEST_LOG]
-    ensures { longest_log ≡ length result }
+const NOTATE: Program = Program {
+    name: "notate",
+    usage: "usage: notate [LOG] > TEXT
+Writes the keystrokes of a recorded log as text, one record a line:
+T=100 J=50 L=50 solo=0, T_s=100 N=50 21+24=U+30F4, 21@0, 21 up@59, L@30, R up@60, fn@70, tick 99
+`transcribe` makes the log of it again. A refused log is written up to the record that is refused, and
+a last line `# refused N at OFFSET: ..`, and standard error, say why. A log has at most 1048576 bytes.
+Without LOG, standard input is read.
+",
+};
+
+// Says that a log that begins with these bytes and has more is too long.
+fn print_longer(rt: &impl Eprint, start: &[u8])
+    requires { longest_log ≤ length start.now }
 {
-    log
+    let _ = eprintln!(rt;
+        "notate: the log is longer than 1048576 bytes, nothing is written: `head -c 1048576` takes its front"
+    );
 }
 
-fn with_text(out: [u8; TEXT_ROOM]) -> [u8; TEXT_ROOM]
-    ensures { text_room ≡ length result }
-{
-    out
-}
-
-// Prints a text, and what a refusal means.
-fn print(stdout: Stdout, stderr: Stderr, text: &[u8], number: u32, offset: usize) {
-    match stdout.write_all(text) {
-        Ok(()) => messages::explain(stderr, number, offset),
-        Err(error) => input::fail(stderr, b"notate: standard output", error),
+// What a log's number means, on standard error. Nothing for 0.
+fn explain(rt: &impl Eprint, number: u32, offset: usize) {
+    if number != 0 {
+        let _ = eprintln!(rt;
+            "notate: record at byte {offset}: {}",
+            Meaning(number as u64)
+        );
     }
 }
 
-// Prints the text of a log.
-fn print_text(stdout: Stdout, stderr: Stderr, notated: Notated, out: &[u8])
-    requires { HasText (length out.now) notated }
-{
-    match notated {
-        Notated::Text {
-            bytes,
-            number,
-            offset,
-        } => print(stdout, stderr, &out[..bytes], number, offset),
-        // There is room: `with_text`.
-        Notated::NoRoom => {}
-        // No more was read: `with_log`.
-        Notated::Unread => {}
-    }
-}
-
-fn print_log(stdout: Stdout, stderr: Stderr, log: &[u8], out: &mut [u8])
-    requires log_len_bound { length log.now ≤ longest_log }
-    requires text_room_in_bounds { text_room ≤ length out.old }
-{
-    let notated = notator::notate(log, out);
-    print_text(stdout, stderr, notated, out);
-}
-
-fn run(stdout: Stdout, stderr: Stderr, from: &mut Source, label: &[u8]) {
-    let mut log = with_log([0; LONGEST_LOG]);
-    let mut out = with_text([0; TEXT_ROOM]);
-    match input::read(from, &mut log) {
-        Input::Whole(n) => print_log(stdout, stderr, &log[..n], &mut out),
-        Input::Longer => messages::print_longer(stderr),
-        Input::Failed(error) => input::fail(stderr, label, error),
-    }
-}
-
-// Runs on the file that argument i names, or for 0 on standard input.
-fn run_on(rt: HostRuntime, i: usize) {
-    let mut buf = io::buffer();
-    let n = input::label(&rt, b"notate: ", i, &mut buf);
-    match input::open(rt, i) {
-        Ok(mut from) => run(rt.stdout(), rt.stderr(), &mut from, &buf[..n]),
-        Err(error) => input::fail(rt.stderr(), &buf[..n], error),
-    }
+fn notate(rt: &(impl Print + Eprint), from: &mut Source) -> Result<(), Failure> {
+    let mut buf: [u8; LONGEST_LOG] = input::buffer(0);
+    let mut out: [u8; TEXT_ROOM] = input::buffer(0);
+    let Some(log) = input::read(from, &mut buf)? else {
+        print_longer(rt, &buf);
+        return Ok(());
+    };
+    let Printed {
+        bytes,
+        number,
+        offset,
+    } = notator::notate(log, &mut out).unwrap();
+    rt.write_all(&out[..bytes]).map_err(Failure::Output)?;
+    explain(rt, number, offset);
+    Ok(())
 }
 
 fn main(rt: HostRuntime) {
-    match input::read_arguments(&rt) {
-        Asked::Work(i) => run_on(rt, i),
-        Asked::Help => messages::print_usage(&rt.stdout()),
-        Asked::Unclear => messages::print_usage(&rt.stderr()),
-    }
+    NOTATE.run(rt, |from| notate(&rt, from));
 }

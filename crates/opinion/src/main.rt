@@ -5,84 +5,59 @@
 // error says why, and some of the text may have been written.
 #![tactic(auto)]
 
-mod messages;
+ghost use Rattle.std.specs.Prelude.{◌≤◌, length};
+ghost use Rattle.opinion_text.specs.Shows.{longest_log};
 
-ghost use Rattle.std.specs.Prelude.{◌≤◌, ◌≡◌, length};
-ghost use Rattle.opinion_text.specs.Shows.{longest_log, text_room};
-ghost use Rattle.opinion.specs.Texts.{HasText};
+use input::{Failure, Program, Source};
+use meanings::Meaning;
+use opinion_text::{LONGEST_LOG, TEXT_ROOM};
+use status_line::Printed;
 
-use input::{Asked, Input, Source};
-use opinion_text::{LONGEST_LOG, Shown, TEXT_ROOM};
-use std::io::{Stderr, Stdout};
+const OPINION: Program = Program {
+    name: "opinion",
+    usage: "usage: opinion [LOG]
+Prints the second opinion on a recorded log, which is what `play` prints of it: the line, and below it
+`waiting N`, or `refused N at OFFSET`, where standard error says what the refusal means. A log with
+pairs is refused 14. A log of more than 1048576 bytes is refused 9. Without LOG, standard input is read.
+",
+};
 
-// Buffers as they are given: a parameter's length is known by its type, that of a new array would take too long to compute.
-fn with_log(log: [u8; LONGEST_LOG]) -> [u8; LONGEST_LOG]
-    ensures { longest_log ≡ length result }
+// Prints what is said of a log that begins with these bytes and has more.
+fn print_longer(rt: &(impl Print + Eprint), start: &[u8]) -> Result<(), Failure>
+    requires { longest_log ≤ length start.now }
 {
-    log
+    rt.write_all(b"refused 9 at 1048576\n")
+        .map_err(Failure::Output)?;
+    let _ = eprintln!(rt; "opinion: the log is longer than 1048576 bytes");
+    Ok(())
 }
 
-fn with_text(out: [u8; TEXT_ROOM]) -> [u8; TEXT_ROOM]
-    ensures { text_room ≡ length result }
-{
-    out
-}
-
-// Prints a text, and what a refusal means.
-fn print(stdout: Stdout, stderr: Stderr, text: &[u8], number: u32, offset: usize) {
-    match stdout.write_all(text) {
-        Ok(()) => messages::explain(stderr, number, offset),
-        Err(error) => input::fail(stderr, b"opinion: standard output", error),
+// What a log's number means, on standard error. Nothing for 0. There is room for all words, so 8 does not come.
+fn explain(rt: &impl Eprint, number: u32, offset: usize) {
+    if number != 0 {
+        let _ = eprintln!(rt;
+            "opinion: record at byte {offset}: {}",
+            Meaning(number as u64)
+        );
     }
 }
 
-// Prints the text of a log.
-fn print_text(stdout: Stdout, stderr: Stderr, shown: Shown, out: &[u8])
-    requires { HasText (length out.now) shown }
-{
-    match shown {
-        // There is room: `with_text`.
-        Shown::Unread => {}
-        Shown::Text {
-            bytes,
-            number,
-            offset,
-        } => print(stdout, stderr, &out[..bytes], number, offset),
-    }
-}
-
-fn print_log(stdout: Stdout, stderr: Stderr, log: &[u8], out: &mut [u8])
-    requires log_len_bound { length log.now ≤ longest_log }
-    requires text_room_in_bounds { text_room ≤ length out.old }
-{
-    let shown = opinion_text::show(log, out);
-    print_text(stdout, stderr, shown, out);
-}
-
-fn run(stdout: Stdout, stderr: Stderr, from: &mut Source, label: &[u8]) {
-    let mut log = with_log([0; LONGEST_LOG]);
-    let mut out = with_text([0; TEXT_ROOM]);
-    match input::read(from, &mut log) {
-        Input::Whole(n) => print_log(stdout, stderr, &log[..n], &mut out),
-        Input::Longer => print(stdout, stderr, b"refused 9 at 1048576\n", 9, 1048576),
-        Input::Failed(error) => input::fail(stderr, label, error),
-    }
-}
-
-// Runs on the file that argument i names, or for 0 on standard input.
-fn run_on(rt: HostRuntime, i: usize) {
-    let mut buf = io::buffer();
-    let n = input::label(&rt, b"opinion: ", i, &mut buf);
-    match input::open(rt, i) {
-        Ok(mut from) => run(rt.stdout(), rt.stderr(), &mut from, &buf[..n]),
-        Err(error) => input::fail(rt.stderr(), &buf[..n], error),
-    }
+fn print_opinion(rt: &(impl Print + Eprint), from: &mut Source) -> Result<(), Failure> {
+    let mut buf: [u8; LONGEST_LOG] = input::buffer(0);
+    let mut out: [u8; TEXT_ROOM] = input::buffer(0);
+    let Some(log) = input::read(from, &mut buf)? else {
+        return print_longer(rt, &buf);
+    };
+    let Printed {
+        bytes,
+        number,
+        offset,
+    } = opinion_text::show(log, &mut out).unwrap();
+    rt.write_all(&out[..bytes]).map_err(Failure::Output)?;
+    explain(rt, number, offset);
+    Ok(())
 }
 
 fn main(rt: HostRuntime) {
-    match input::read_arguments(&rt) {
-        Asked::Work(i) => run_on(rt, i),
-        Asked::Help => messages::print_usage(&rt.stdout()),
-        Asked::Unclear => messages::print_usage(&rt.stderr()),
-    }
+    OPINION.run(rt, |from| print_opinion(&rt, from));
 }

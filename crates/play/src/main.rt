@@ -9,171 +9,86 @@
 
 mod messages;
 
-ghost use Rattle.std.specs.Prelude.{ℕ, ◌≤◌, List, ◌≡◌, length};
+ghost use Rattle.std.specs.Prelude.{◌≤◌, length};
 ghost use Rattle.log_reader.specs.Listed.{room};
 ghost use Rattle.log_reader.specs.Views.{reader_of};
 ghost use Rattle.play_text.specs.Played.{buffer, text_room, played};
 ghost use Rattle.play_text.specs.HoweverPlayed.{Reached};
-ghost use Rattle.play.specs.Turns.{HasText, HasEnd, Turns, Leaves};
+ghost use Rattle.play.specs.Turns.{Turns};
 
-use input::{Asked, Piece, Source};
-use log_reader::{Reader, Told};
-use play_text::{BUFFER, Ending, Shown, TEXT_ROOM};
-use std::io::{Stderr, Stdout};
+use input::{Failure, Program, Source};
+use log_reader::Reader;
+use play_text::{BUFFER, Piece, TEXT_ROOM};
+use status_line::Printed;
+use std::ops::ControlFlow;
 
-// What is left to do after a piece.
-#[derive(Clone, Copy)]
-enum Turn {
-    // Its text was printed, and the log goes on.
-    More(Reader),
-    // Its text was printed, and a record was refused: nothing behind it is read.
-    Refused(Reader),
-    // Standard output could not be written.
-    Failed,
-}
+const PLAY: Program = Program {
+    name: "play",
+    usage: "usage: play [LOG]
+Prints the line that a recorded log gives, and below it `waiting N`, or `refused N at OFFSET`,
+where standard error says what the refusal means. The line is printed as the log arrives.
+Without LOG, standard input is read.
+",
+};
 
-// The buffer through which the log is read.
-fn log_buffer() -> [u8; BUFFER]
-    ensures { buffer ≡ length result }
-{
-    [0; BUFFER]
-}
-
-// Room for the text of any piece, and of the end.
-fn text_buffer() -> [u8; TEXT_ROOM]
-    ensures { text_room ≡ length result }
-{
-    [0; TEXT_ROOM]
-}
-
-// Prints the text of a piece.
-fn print_text(stdout: Stdout, stderr: Stderr, shown: Shown, out: &[u8]) -> Turn
-    requires { HasText (length out.now) shown }
-    ensures { (list : List ℕ) → Leaves list shown result }
-{
-    match shown {
-        // There is room: `text_buffer`.
-        Shown::Unread => Turn::Failed,
-        Shown::Text { next, bytes } => {
-            if let Err(error) = stdout.write_all(&out[..bytes]) {
-                input::fail(stderr, b"play: standard output", error);
-                return Turn::Failed;
-            }
-            let told = next.told;
-            match told {
-                Told::Going => Turn::More(next),
-                Told::For(_) => Turn::Refused(next),
-            }
-        }
-    }
-}
-
-// Reads a piece and prints the text that it brings. The log's list of pairs lives in a run of its own.
+// Reads a piece and prints the text that it brings: the log goes on, or a record was refused and nothing behind it is read. The log's list
+// of pairs lives in a run of its own.
 fn play_piece(
-    stdout: Stdout,
-    stderr: Stderr,
+    rt: &impl Print,
     reader: Reader,
     list: &mut [u32],
     piece: &[u8],
     out: &mut [u8],
-) -> Turn
+) -> Result<ControlFlow<Reader, Reader>, Failure>
     requires piece_len_bound { length piece.now ≤ buffer }
     requires room_in_bounds { room ≤ length list.old }
     requires text_room_in_bounds { text_room ≤ length out.old }
     ensures { Turns list.new (played (reader_of list.old reader) piece.now).reader result }
 {
-    let shown = play_text::show_piece(reader, list, piece, out);
-    print_text(stdout, stderr, shown, out)
+    let Piece { next, bytes } = play_text::show_piece(reader, list, piece, out).unwrap();
+    rt.write_all(&out[..bytes]).map_err(Failure::Output)?;
+    Ok(match next.told {
+        None => ControlFlow::Continue(next),
+        Some(_) => ControlFlow::Break(next),
+    })
 }
 
-// Prints what follows the line, and what a refusal means.
-fn print_end(stdout: Stdout, stderr: Stderr, ending: Ending, out: &[u8])
-    requires { HasEnd (length out.now) ending }
-{
-    match ending {
-        // There is room: `text_buffer`.
-        Ending::Full => {}
-        Ending::Text {
-            bytes,
-            number,
-            offset,
-        } => {
-            match stdout.write_all(&out[..bytes]) {
-                Ok(()) => messages::explain(stderr, number, offset),
-                Err(error) => input::fail(stderr, b"play: standard output", error),
-            }
-        }
-    }
-}
-
-// The log has ended, or was refused.
-fn finish(stdout: Stdout, stderr: Stderr, reader: Reader, list: &[u32], out: &mut [u8])
+// The log has ended, or was refused: prints what follows the line, and what a refusal means.
+fn finish(
+    rt: &(impl Print + Eprint),
+    reader: Reader,
+    list: &[u32],
+    out: &mut [u8],
+) -> Result<(), Failure>
     requires reached { Reached (reader_of list.now reader) }
     requires room_in_bounds { room ≤ length list.now }
     requires text_room_in_bounds { text_room ≤ length out.old }
 {
-    let ending = play_text::show_end(reader, list, out);
-    print_end(stdout, stderr, ending, out);
+    let Printed {
+        bytes,
+        number,
+        offset,
+    } = play_text::show_end(reader, list, out).unwrap();
+    rt.write_all(&out[..bytes]).map_err(Failure::Output)?;
+    messages::explain(rt, number, offset);
+    Ok(())
 }
 
 // Reads a log piece by piece to its end. It comes to one: each piece has a byte at least, and the reader counts them.
-fn play_log(
-    stdout: Stdout,
-    stderr: Stderr,
-    from: &mut Source,
-    label: &[u8],
-    log: &mut [u8],
-    list: &mut [u32],
-    out: &mut [u8],
-)
-    requires buffer_value { buffer ≡ length log.old }
-    requires room_value { room ≡ length list.old }
-    requires text_room_value { text_room ≡ length out.old }
-{
+fn play(rt: &(impl Print + Eprint), from: &mut Source) -> Result<(), Failure> {
+    let mut log: [u8; BUFFER] = input::buffer(0);
+    let mut list = log_reader::pair_buffer();
+    let mut out: [u8; TEXT_ROOM] = input::buffer(0);
     let mut reader = log_reader::fresh();
-    loop {
-        match input::read_from(from, log) {
-            Piece::Bytes(n) => match play_piece(stdout, stderr, reader, list, &log[..n], out) {
-                Turn::More(next) => reader = next,
-                Turn::Refused(last) => {
-                    finish(stdout, stderr, last, list, out);
-                    return;
-                }
-                Turn::Failed => return,
-            },
-            Piece::End => {
-                finish(stdout, stderr, reader, list, out);
-                return;
-            }
-            Piece::Failed(error) => {
-                input::fail(stderr, label, error);
-                return;
-            }
+    while let Some(n) = input::read_from(from, &mut log)? {
+        match play_piece(rt, reader, &mut list, &log[..n], &mut out)? {
+            ControlFlow::Continue(next) => reader = next,
+            ControlFlow::Break(last) => return finish(rt, last, &list, &mut out),
         }
     }
-}
-
-fn run(stdout: Stdout, stderr: Stderr, from: &mut Source, label: &[u8]) {
-    let mut log = log_buffer();
-    let mut list = log_reader::pair_buffer();
-    let mut out = text_buffer();
-    play_log(stdout, stderr, from, label, &mut log, &mut list, &mut out);
-}
-
-// Runs on the file that argument i names, or for 0 on standard input.
-fn run_on(rt: HostRuntime, i: usize) {
-    let mut buf = io::buffer();
-    let n = input::label(&rt, b"play: ", i, &mut buf);
-    match input::open(rt, i) {
-        Ok(mut from) => run(rt.stdout(), rt.stderr(), &mut from, &buf[..n]),
-        Err(error) => input::fail(rt.stderr(), &buf[..n], error),
-    }
+    finish(rt, reader, &list, &mut out)
 }
 
 fn main(rt: HostRuntime) {
-    match input::read_arguments(&rt) {
-        Asked::Work(i) => run_on(rt, i),
-        Asked::Help => messages::print_usage(&rt.stdout()),
-        Asked::Unclear => messages::print_usage(&rt.stderr()),
-    }
+    PLAY.run(rt, |from| play(&rt, from));
 }

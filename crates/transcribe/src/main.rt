@@ -8,77 +8,39 @@
 
 mod messages;
 
-ghost use Rattle.std.specs.Prelude.{◌≡◌, length};
-ghost use Rattle.transcribe.specs.Answers.{text_room, log_room, Within};
-
-use input::{Asked, Input, Source};
-use std::io::{Stderr, Stdout};
-use transcriber::Transcribed;
+use input::{Failure, Program, Source};
+use transcriber::Untranscribed;
 
 const TEXT_ROOM: usize = 4194432;
 
 const LOG_ROOM: usize = 1048576;
 
-// Buffers as they are given: a parameter's length is known by its type, that of a new array would take too long to compute.
-fn with_text(text: [u8; TEXT_ROOM]) -> [u8; TEXT_ROOM]
-    ensures { text_room ≡ length result }
-{
-    text
-}
+const TRANSCRIBE: Program = Program {
+    name: "transcribe",
+    usage: "usage: transcribe [TEXT] > LOG
+Writes the log of keystrokes that are written as text, with commas or line ends between them:
+T=100 J=50 L=50 solo=0, T_s=100 N=50 21+24=U+30F4, 21@0, 21 up@59, L@30, R up@60, fn@70, tick 99
+# begins a comment. Whether a log is accepted is not asked here: play tells. A text has at most 4194432
+bytes, and its log 1048576. Without TEXT, standard input is read.
+",
+};
 
-fn with_log(log: [u8; LOG_ROOM]) -> [u8; LOG_ROOM]
-    ensures { log_room ≡ length result }
-{
-    log
-}
-
-fn print(stdout: Stdout, stderr: Stderr, log: &[u8]) {
-    match stdout.write_all(log) {
-        Ok(()) => {}
-        Err(error) => input::fail(stderr, b"transcribe: standard output", error),
+fn transcribe(rt: &(impl Print + Eprint), from: &mut Source) -> Result<(), Failure> {
+    let mut buf: [u8; TEXT_ROOM] = input::buffer(0);
+    let mut log: [u8; LOG_ROOM] = input::buffer(0);
+    let Some(text) = input::read(from, &mut buf)? else {
+        messages::print_longer(rt, &buf);
+        return Ok(());
+    };
+    match transcriber::transcribe(text, &mut log) {
+        Ok(n) => rt.write_all(&log[..n]).map_err(Failure::Output)?,
+        Err(Untranscribed::Wrong(place, expected)) => messages::print_wrong(rt, place, expected),
+        Err(Untranscribed::NoRoom) => messages::print_no_room(rt, &log),
+        Err(Untranscribed::Unread) => unreachable!(),
     }
-}
-
-fn show(stdout: Stdout, stderr: Stderr, answer: Transcribed, log: &[u8])
-    requires { Within (length log.now) answer }
-{
-    match answer {
-        Transcribed::Log(n) => print(stdout, stderr, &log[..n]),
-        Transcribed::Wrong(place, expected) => messages::print_wrong(stderr, place, expected),
-        Transcribed::NoRoom => messages::print_no_room(stderr),
-        Transcribed::Unread => messages::print_longer(stderr),
-    }
-}
-
-fn print_log(stdout: Stdout, stderr: Stderr, text: &[u8], log: &mut [u8]) {
-    let answer = transcriber::transcribe(text, log);
-    show(stdout, stderr, answer, log);
-}
-
-fn run(stdout: Stdout, stderr: Stderr, from: &mut Source, label: &[u8]) {
-    let mut text = with_text([0; TEXT_ROOM]);
-    let mut log = with_log([0; LOG_ROOM]);
-    match input::read(from, &mut text) {
-        Input::Whole(n) => print_log(stdout, stderr, &text[..n], &mut log),
-        Input::Longer => messages::print_longer(stderr),
-        Input::Failed(error) => input::fail(stderr, label, error),
-    }
-}
-
-// Runs on the file that argument i names, or for 0 on standard input.
-fn run_on(rt: HostRuntime, i: usize) {
-    let mut buf = io::buffer();
-    let n = input::label(&rt, b"transcribe: ", i, &mut buf);
-    match input::open(rt, i) {
-        Ok(mut from) => run(rt.stdout(), rt.stderr(), &mut from, &buf[..n]),
-        Err(error) => input::fail(rt.stderr(), &buf[..n], error),
-    }
+    Ok(())
 }
 
 fn main(rt: HostRuntime) {
-    match input::read_arguments(&rt) {
-        Asked::Work(i) => run_on(rt, i),
-        Asked::Help => messages::print_usage(&rt.stdout()),
-        Asked::Unclear => messages::print_usage(&rt.stderr()),
-    }
+    TRANSCRIBE.run(rt, |from| transcribe(&rt, from));
 }

@@ -1,6 +1,0 @@
--- `console::with_log` meets its contract: the length that the type gives is the definition's.
-use native.Mathlib.Omega.{arith}
-use Rattle.console.proofs.with_log.Goals as goal
-
-pub returns : goal.returns
-returns c = omega arith

@@ -1,9 +1,0 @@
--- `explain::picture::print_events` ends: it draws one event a turn.
-use Rattle.std.proofs.Common.{◌-◌}
-use Rattle.explain.proofs.picture.print_events.Given as goal
-
-abbrev pub invariant-loop-i : goal.invariant-loop-i
-invariant-loop-i l = Unit
-
-abbrev pub decreases-loop-i : goal.decreases-loop-i
-decreases-loop-i l = l.count - l.i

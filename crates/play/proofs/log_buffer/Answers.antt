@@ -1,6 +1,0 @@
--- `play::log_buffer` meets its contract: its length is the definition's.
-use mathlib.Core.Path.{refl}
-use Rattle.play.proofs.log_buffer.Goals as goal
-
-pub returns : goal.returns
-returns c = refl
