@@ -11,5 +11,6 @@ mod places;
 mod refusals;
 mod telling;
 mod whole;
+mod words;
 
 pub use whole::opine;

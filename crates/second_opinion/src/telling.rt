@@ -7,6 +7,7 @@ ghost use Rattle.second_opinion.specs.Telling.{packed, words_of, Counts, told_in
 
 use crate::decisions::{Next, Set};
 use crate::due_stamps::Opened;
+use crate::words::of_items;
 use keylog::Words;
 
 // How many words there are, and how many characters wait.
@@ -50,7 +51,7 @@ impl<'a> Telling<'a> {
         self.left -= 1;
         let decision = self.opened.decide(set, at);
         self.next = decision.next;
-        Some(keylog::words_of(decision.items))
+        Some(of_items(decision.items))
     }
 }
 

@@ -15,7 +15,7 @@ returns c =
     let by = told_by c.args.self.now.opened c.args.self.now.left c.in-On.set c.in-On.at c.if-self-eq0.false c.decide-decision.result
     c.decide-decision.ensures in
     record {
-      words_told = rw (c.in-On.is, c.words_of.ensures) (ap (λ (t : Told). signs t.items) by ∙ signs_append (listed c.decide-decision.result.items) _);
+      words_told = rw (c.in-On.is, c.of_items.ensures) (ap (λ (t : Told). signs t.items) by ∙ signs_append (listed c.decide-decision.result.items) _);
       waiting_told = rw c.in-On.is (ap (λ (t : Told). t.waiting) by);
       fewer = omega arith;
     }
