@@ -14,7 +14,7 @@ use effects::{
 };
 use pairs::Lent;
 use rules::{Key, Kind, Resting, Settings, Stamp};
-use states::{in_s1, in_s2, in_s3, in_s4, in_s5, in_s6, in_s7, in_s8};
+use states::by_kind::{in_s1, in_s2, in_s3, in_s4, in_s5, in_s6, in_s7, in_s8};
 
 // What is late was done, and the event acts in S1, which commits nothing.
 fn then_in_s1(late: Effect, now: Stamp, kind: Kind, n: Key) -> Effect

@@ -26,7 +26,7 @@ use preview::sent;
 pub use preview::{Sendings, Signs};
 pub use rules::Items;
 use rules::{Event, Key, Kind, Machine, Refusal, Resting, Settings, Stamp};
-use states::{act, in_s1, late};
+use states::by_kind::{act, in_s1, late};
 
 // W: the longest wait where there are no pairs.
 pub use waits::longest_wait;
