@@ -42,7 +42,7 @@ use Rattle.row.specs.Views.{Tells, TellsAt, told_number}
 use Rattle.row.specs.RowFacts.{Found}
 use Rattle.row.specs.RowRuns.{RowEvent, row_step, events_of}
 use Rattle.row.specs.RowCalls.{Called, CallsAt, RowCalls, no_more, call, no_call, handed, own_answer}
-use Rattle.row.specs.RowCalls.{answer_in, answers_of, machine_of}
+use Rattle.row.specs.RowCalls.{answer_in, answers_of, standing, machines_of, last_of, machine_of, machines_after}
 use Rattle.row.specs.RowCalls.{Distance, AsksAt, told_of, RowHandedOn, OwnCalls, IsolatedCalls, OfTheRowStatement, ClockMovedAtStatement, RowOfTheCode}
 use Rattle.row.specs.declared.Told.{Told}
 use Rattle.row.proofs.Found.{step_here, asking_here}
@@ -200,8 +200,37 @@ module _ (g : Lent) (k : ℕ) where
           let as_before = subst (λ (l : List Machine). Found l k m) (sym h.1) (found_other g k row x m f other) in
           subst (λ (n : Machine). Calls g n (events_of k xs) (answers_of k xs cs)) (one_found left as_before) rest
 
+  -- what stands in the row behind each call is the machine after it
+  machines_at : (m : Machine) (xs : List RowEvent) (cs : List Called) → RowCalls g k m xs cs
+      → machines_of k xs cs ≡ machines_after m (answers_of k xs cs)
+  machines_at m _ _ no_more = refl
+  machines_at m _ _ (call {after = after} {row = row} {x = x} {c = c} {xs = xs} {cs = cs} f h left more) =
+      go (eqb x.board k) refl (machines_at after xs cs more)
+    where
+      go : (t : Bool) → eqb x.board k ≡ t → machines_of k xs cs ≡ machines_after after (answers_of k xs cs)
+          → (if t then standing (get_elem? c.row k) orelse []) ++ machines_of k xs cs
+          ≡ machines_after m ((if t then answer_in c (get_elem? c.row k) orelse []) ++ answers_of k xs cs)
+      go true own rest =
+          let gives = gives_own row x c m after f h left own in
+          let same : after ≡ machine_after m (own_answer c.told after)
+          = left_own row x c m after f h left own ∙ sym (ap (λ (a : Answer). a.machine) gives.answer) in
+          rw left.stands (ap (λ (l : List Machine). after ∷ l) rest
+          ∙ ap (λ (n : Machine). n ∷ machines_after n (answers_of k xs cs)) same)
+      go false other rest =
+          let as_before = subst (λ (l : List Machine). Found l k m) (sym h.1) (found_other g k row x m f other) in
+          rest ∙ ap (λ (n : Machine). machines_after n (answers_of k xs cs)) (one_found left as_before)
+
 own_calls : OwnCalls
-own_calls g k m xs cs c = own_at g k m xs cs c
+own_calls g k m xs cs c = record { calls = own_at g k m xs cs c; machines = machines_at g k m xs cs c }
+
+last_after : (m : Machine) (rs : List Given) → last_of m (machines_after m rs) ≡ last_machine m rs
+last_after m [] = refl
+last_after m (r ∷ rs) = last_after (machine_after m r) rs
+
+-- so the machine that its last call left in the row is the one after it
+left_is : (g : Lent) (k : ℕ) (m : Machine) (xs : List RowEvent) (cs : List Called) → RowCalls g k m xs cs
+    → machine_of k m xs cs ≡ last_machine m (answers_of k xs cs)
+left_is g k m xs cs c = ap (λ (l : List Machine). last_of m l) (machines_at g k m xs cs c) ∙ last_after m (answers_of k xs cs)
 
 row_handed_on : RowHandedOn
 row_handed_on g k row m _ _ no_call f = no_more
@@ -217,52 +246,60 @@ asked_own {g} {k} {m} {now} a = a.asks ∙ asking_here a.row k g now m a.found
 isolated_calls : IsolatedCalls
 isolated_calls g k j m xs ys cs ds c d same =
     let answers : answers_of k xs cs ≡ answers_of j ys ds
-    = calls_form g (own_calls g k m xs cs c) ∙ ap (λ (es : List Event). along g form_in m es) same
-    ∙ sym (calls_form g (own_calls g j m ys ds d)) in
+    = calls_form g (own_at g k m xs cs c) ∙ ap (λ (es : List Event). along g form_in m es) same
+    ∙ sym (calls_form g (own_at g j m ys ds d)) in
+    let machines : machines_of k xs cs ≡ machines_of j ys ds
+    = machines_at g k m xs cs c ∙ ap (λ (rs : List Given). machines_after m rs) answers ∙ sym (machines_at g j m ys ds d) in
     record {
       same_answers = answers;
-      same_asked = λ now r o a b. asked_own a ∙ ap (λ (l : List Given). asking g (last_machine m l) now) answers ∙ sym (asked_own b);
+      same_machines = machines;
+      same_asked = λ now r o a b. asked_own a ∙ ap (λ (l : List Machine). asking g (last_of m l) now) machines ∙ sym (asked_own b);
     }
 
 module _ (g : Lent) (k : ℕ) (s : Settings) (m : Machine) (xs : List RowEvent) (cs : List Called) (is_opened : opened (Ok m) ≡ opening s)
     (c : RowCalls g k m xs cs) where
   code : OfTheCode g s m (events_of k xs) (answers_of k xs cs)
-  code = of_the_code g (record { machine_opened = is_opened; calls = own_calls g k m xs cs c })
+  code = of_the_code g (record { machine_opened = is_opened; calls = own_at g k m xs cs c })
+
+  left : machine_of k m xs cs ≡ state g s (events_of k xs)
+  left = left_is g k m xs cs c ∙ code.same_machine
 
   told_are : map told_of (answers_of k xs cs) ≡ map packed_told (clock.all_told g s (events_of k xs))
   told_are =
       let begun = of_the_code g {s = s} {m = m} {es = []} {rs = []} (record { machine_opened = is_opened; calls = one.no_more }) in
-      ap (map told_of) (calls_form g (own_calls g k m xs cs c)) ∙ told_along g m (events_of k xs)
+      ap (map told_of) (calls_form g (own_at g k m xs cs c)) ∙ told_along g m (events_of k xs)
       ∙ ap (λ (z : Machine). map packed_told (along g told_in z (events_of k xs))) begun.same_machine
 
 of_the_row : OfTheRowStatement
 of_the_row g k s m xs cs is_opened c =
     let run = code g k s m xs cs is_opened c in
+    let stands = left g k s m xs cs is_opened c in
     record {
       of_the_code = run;
-      same_asked = λ now r a. asked_own a ∙ ap (λ (z : Machine). asking g z now) run.same_machine;
+      left_in_row = stands;
+      same_asked = λ now r a. asked_own a ∙ ap (λ (z : Machine). asking g z now) stands;
       own_last_stamp = λ good row e t f tells.
           let at : told_number t ≡ (step g (state g s (events_of k xs)) e).number
           = tells.number_is ∙ ap (λ (a : RowAnswer). a.number) (step_here row k g e (machine_of k m xs cs) f)
-          ∙ ap (λ (z : Machine). (step g z e).number) run.same_machine in
+          ∙ ap (λ (z : Machine). (step g z e).number) stands in
           rw at ((last_accepted g good s run.settings_in_range (events_of k xs)).gives_5 e);
     }
 
 clock_moved_at : ClockMovedAtStatement
 clock_moved_at g d k j s m xs ys cs ds is_opened c c' moved stay =
-    let before = code g k s m xs cs is_opened c in
-    let later_on = code g j s m ys ds is_opened c' in
+    let before = left g k s m xs cs is_opened c in
+    let later_on = left g j s m ys ds is_opened c' in
     let both = clock_moved g d s (events_of k xs) stay in
     let accepted = accepted_events g s (events_of k xs) in
     record {
       same_told = told_are g j s m ys ds is_opened c' ∙ ap (λ (es : List Event). map packed_told (clock.all_told g s es)) moved
           ∙ ap (map packed_told) both.same_answers ∙ sym (told_are g k s m xs cs is_opened c);
-      machine_moved = later_on.same_machine ∙ ap (λ (es : List Event). state g s es) moved ∙ both.states_moved
-          ∙ ap (λ (z : Machine). clock.moved_state d accepted z) (sym before.same_machine);
+      machine_moved = later_on ∙ ap (λ (es : List Event). state g s es) moved ∙ both.states_moved
+          ∙ ap (λ (z : Machine). clock.moved_state d accepted z) (sym before);
       same_asked = λ now stays r o a b.
-          asked_own b ∙ ap (λ (z : Machine). asking g z (later now d)) (later_on.same_machine
+          asked_own b ∙ ap (λ (z : Machine). asking g z (later now d)) (later_on
           ∙ ap (λ (es : List Event). state g s es) moved)
-          ∙ both.same_distance now stays ∙ ap (λ (z : Machine). asking g z now) (sym before.same_machine) ∙ sym (asked_own a);
+          ∙ both.same_distance now stays ∙ ap (λ (z : Machine). asking g z now) (sym before) ∙ sym (asked_own a);
     }
 
 pub row_of_the_code : RowOfTheCode

@@ -18,7 +18,7 @@ use Rattle.rules.specs.declared.Machine.{Machine}
 use Rattle.rules.specs.declared.Event.{Event}
 use Rattle.rules.specs.declared.Refusal.{Refusal}
 use Rattle.deadlines.specs.Views.{asked}
-use Rattle.engine.specs.Calls.{Given, Calls, last_machine, OfTheCode}
+use Rattle.engine.specs.Calls.{Given, Calls, machine_after, OfTheCode}
 use Rattle.row.specs.Row.{step_at, asking_at}
 use Rattle.row.specs.Views.{TellsAt, told_number}
 use Rattle.row.specs.RowFacts.{Found}
@@ -59,7 +59,7 @@ RowHandedOn =
     (g : Lent) (k : ℕ) (row : List Machine) (m : Machine) (xs : List RowEvent) (cs : List Called)
     → HandedOn g row xs cs → Found row k m → RowCalls g k m xs cs
 
--- what a keyboard has of a call: what is told, and its machine in the row
+-- what a keyboard has of a call: what is told, and with it, where the event is accepted, its machine in the row
 abbrev pub own_answer : Result Told Refusal → Machine → Given
 own_answer (Ok t) m = Ok (record { items = t.items; sendings = t.sendings; machine = m })
 own_answer (Err e) m = Err e
@@ -74,16 +74,40 @@ answers_of k [] cs = []
 answers_of k (x ∷ xs) [] = []
 answers_of k (x ∷ xs) (c ∷ cs) = (if eqb x.board k then answer_in c (get_elem? c.row k) orelse []) ++ answers_of k xs cs
 
--- the machine that its last call left, or m
+abbrev pub standing : Option Machine → List Machine
+standing none = []
+standing (some m) = m ∷ []
+
+-- the machines that stand in the row at keyboard k, one behind each of its calls, also where the event was refused
+abbrev pub machines_of : ℕ → List RowEvent → List Called → List Machine
+machines_of k [] cs = []
+machines_of k (x ∷ xs) [] = []
+machines_of k (x ∷ xs) (c ∷ cs) = (if eqb x.board k then standing (get_elem? c.row k) orelse []) ++ machines_of k xs cs
+
+abbrev pub last_of : Machine → List Machine → Machine
+last_of m [] = m
+last_of m (n ∷ ns) = last_of n ns
+
+-- the machine that its last call left in the row, or m
 abbrev pub machine_of : ℕ → Machine → List RowEvent → List Called → Machine
-machine_of k m xs cs = last_machine m (answers_of k xs cs)
+machine_of k m xs cs = last_of m (machines_of k xs cs)
+
+-- the machines after calls of `engine::step`, one for each
+abbrev pub machines_after : Machine → List Given → List Machine
+machines_after m [] = []
+machines_after m (r ∷ rs) = machine_after m r ∷ machines_after (machine_after m r) rs
+
+-- Calls at a row are, for keyboard k, calls of `engine::step`, and what stands in the row behind each is the machine after it.
+pub record AsItsOwn (g : Lent) (k : ℕ) (m : Machine) (xs : List RowEvent) (cs : List Called) : Type 0 where
+  pub calls : Calls g m (events_of k xs) (answers_of k xs cs)
+  pub machines : machines_of k xs cs ≡ machines_after m (answers_of k xs cs)
 
 -- The bridge: calls at a row are, for keyboard k, calls of `engine::step` with its own events, each with the machine that the one before
 -- gave back. So all that is proved of those holds at a row.
 abbrev pub OwnCalls : Type 0
 OwnCalls =
     (g : Lent) (k : ℕ) (m : Machine) (xs : List RowEvent) (cs : List Called) → RowCalls g k m xs cs
-    → Calls g m (events_of k xs) (answers_of k xs cs)
+    → AsItsOwn g k m xs cs
 
 -- what `distance_at` answers
 abbrev pub Distance : Type 0
@@ -99,6 +123,7 @@ pub record AsksAt (g : Lent) (k : ℕ) (m : Machine) (now : Stamp) (r : Distance
 -- afterwards, and then the same distances.
 pub record SameOfTheCode (g : Lent) (k j : ℕ) (m : Machine) (xs ys : List RowEvent) (cs ds : List Called) : Type 0 where
   pub same_answers : answers_of k xs cs ≡ answers_of j ys ds
+  pub same_machines : machines_of k xs cs ≡ machines_of j ys ds
   pub same_asked : (now : Stamp) (r o : Distance) → AsksAt g k (machine_of k m xs cs) now r → AsksAt g j (machine_of j m ys ds) now o
       → asked r ≡ asked o
 
@@ -113,9 +138,11 @@ IsolatedCalls =
 -- Demand 3 for this keyboard's events. `Machine::open` gave its machine for settings s, by the contract `opened r ≡ opening settings`, and
 -- it got calls at a row alone.
 pub record OfTheRow (g : Lent) (k : ℕ) (s : Settings) (m : Machine) (xs : List RowEvent) (cs : List Called) : Type 1 where
-  -- the machine and every reading of its calls are those of its own events from a fresh state, and of those demand 3 holds
+  -- the machine after them and every reading of its calls are those of its own events from a fresh state, and of those demand 3 holds
   pub of_the_code : OfTheCode g s m (events_of k xs) (answers_of k xs cs)
-  -- so is what it answers when asked
+  -- so is the machine that stands in the row behind them
+  pub left_in_row : machine_of k m xs cs ≡ state g s (events_of k xs)
+  -- and what it answers when asked
   pub same_asked : (now : Stamp) (r : Distance) → AsksAt g k (machine_of k m xs cs) now r
       → asked r ≡ asking g (state g s (events_of k xs)) now
   -- Stamps of different keyboards are never compared: its next event, that no earlier check refuses, is refused 5 exactly when its stamp
