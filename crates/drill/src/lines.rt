@@ -27,6 +27,13 @@ pub fn line(text: &[u8]) -> &[u8]
     text.strip_suffix(b"\n").unwrap_or(text)
 }
 
+// Room for the words of any text: none has more words than bytes.
+fn word_buffer() -> [u16; LONGEST_TEXT]
+    ensures { longest_text ≡ length result }
+{
+    input::buffer(0)
+}
+
 // The log of a line at the front of a run: how many bytes it has.
 fn write_line(settings: Settings, line: &[u16], log: &mut [u8]) -> Result<usize, Unwritten>
     ensures { Answers settings line.now log.old result log.new }
@@ -53,8 +60,7 @@ pub fn write(settings: Settings, text: &[u8], log: &mut [u8]) -> Result<usize, U
     ensures within { Within (length log.old) result }
     ensures not_8 { Not8 result }
 {
-    // None has more words than bytes.
-    let mut words: [u16; LONGEST_TEXT] = input::buffer(0);
+    let mut words = word_buffer();
     match decode::decode(line(text), &mut words) {
         Ok(n) => write_line(settings, &words[..n], log),
         Err(DecodeError::Damaged(position)) => Err(Unwritten::Damaged(position)),

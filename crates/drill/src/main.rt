@@ -9,6 +9,10 @@ mod arguments;
 mod lines;
 mod messages;
 
+ghost use Rattle.std.specs.Prelude.{◌≡◌, length};
+ghost use Rattle.drill.specs.Texts.{longest_text};
+ghost use Rattle.drill.specs.Room.{log_room};
+
 use input::{Failure, Program, Source};
 use lines::LONGEST_TEXT;
 use rules::Settings;
@@ -27,9 +31,23 @@ written, and standard error says why. LINE is a file with the line; without it, 
 ",
 };
 
+// The buffer into which the text is read.
+fn text_buffer() -> [u8; LONGEST_TEXT]
+    ensures { longest_text ≡ length result }
+{
+    input::buffer(0)
+}
+
+// Room for the log of any text.
+fn log_buffer() -> [u8; LOG_ROOM]
+    ensures { log_room ≡ length result }
+{
+    input::buffer(0)
+}
+
 fn drill(rt: &(impl Print + Eprint), settings: Settings, from: &mut Source) -> Result<(), Failure> {
-    let mut buf: [u8; LONGEST_TEXT] = input::buffer(0);
-    let mut log: [u8; LOG_ROOM] = input::buffer(0);
+    let mut buf = text_buffer();
+    let mut log = log_buffer();
     let Some(text) = input::read(from, &mut buf)? else {
         messages::print_longer(rt, &buf);
         return Ok(());

@@ -5,7 +5,7 @@
 // error says why, and some of the log may have been written.
 #![tactic(auto)]
 
-ghost use Rattle.std.specs.Prelude.{◌≤◌, length};
+ghost use Rattle.std.specs.Prelude.{◌≤◌, ◌≡◌, length};
 ghost use Rattle.mend.specs.Buffers.{longest};
 
 use input::{Failure, Program, Source};
@@ -27,6 +27,13 @@ is refused: nothing is written, and standard error says `refused N`. So is one o
 Without DAMAGED, standard input is read.
 ",
 };
+
+// A buffer that the longest log that is mended fills.
+fn log_buffer() -> [u8; LONGEST]
+    ensures { longest ≡ length result }
+{
+    input::buffer(0)
+}
 
 // Says that a log that begins with these bytes and has more is too long.
 fn print_longer(rt: &impl Eprint, start: &[u8])
@@ -59,8 +66,8 @@ fn mend_log(rt: &(impl Print + Eprint), log: &[u8], out: &mut [u8]) -> Result<()
 }
 
 fn mend(rt: &(impl Print + Eprint), from: &mut Source) -> Result<(), Failure> {
-    let mut buf: [u8; LONGEST] = input::buffer(0);
-    let mut out: [u8; LONGEST] = input::buffer(0);
+    let mut buf = log_buffer();
+    let mut out = log_buffer();
     let Some(log) = input::read(from, &mut buf)? else {
         print_longer(rt, &buf);
         return Ok(());

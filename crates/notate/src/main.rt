@@ -6,8 +6,9 @@
 // output can't be written, standard error says why, and some of the text may have been written.
 #![tactic(auto)]
 
-ghost use Rattle.std.specs.Prelude.{◌≤◌, length};
+ghost use Rattle.std.specs.Prelude.{◌≤◌, ◌≡◌, length};
 ghost use Rattle.notator.specs.Notates.{longest_log};
+ghost use Rattle.notate.specs.Texts.{text_room};
 
 use input::{Failure, Program, Source};
 use meanings::Meaning;
@@ -27,6 +28,20 @@ a last line `# refused N at OFFSET: ..`, and standard error, say why. A log has 
 Without LOG, standard input is read.
 ",
 };
+
+// A buffer that the longest log fills.
+fn log_buffer() -> [u8; LONGEST_LOG]
+    ensures { longest_log ≡ length result }
+{
+    input::buffer(0)
+}
+
+// Room for the text of any log.
+fn text_buffer() -> [u8; TEXT_ROOM]
+    ensures { text_room ≡ length result }
+{
+    input::buffer(0)
+}
 
 // Says that a log that begins with these bytes and has more is too long.
 fn print_longer(rt: &impl Eprint, start: &[u8])
@@ -48,8 +63,8 @@ fn explain(rt: &impl Eprint, number: u32, offset: usize) {
 }
 
 fn notate(rt: &(impl Print + Eprint), from: &mut Source) -> Result<(), Failure> {
-    let mut buf: [u8; LONGEST_LOG] = input::buffer(0);
-    let mut out: [u8; TEXT_ROOM] = input::buffer(0);
+    let mut buf = log_buffer();
+    let mut out = text_buffer();
     let Some(log) = input::read(from, &mut buf)? else {
         print_longer(rt, &buf);
         return Ok(());

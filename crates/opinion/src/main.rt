@@ -5,8 +5,8 @@
 // error says why, and some of the text may have been written.
 #![tactic(auto)]
 
-ghost use Rattle.std.specs.Prelude.{◌≤◌, length};
-ghost use Rattle.opinion_text.specs.Shows.{longest_log};
+ghost use Rattle.std.specs.Prelude.{◌≤◌, ◌≡◌, length};
+ghost use Rattle.opinion_text.specs.Shows.{longest_log, text_room};
 
 use input::{Failure, Program, Source};
 use meanings::Meaning;
@@ -21,6 +21,20 @@ Prints the second opinion on a recorded log, which is what `play` prints of it: 
 pairs is refused 14. A log of more than 1048576 bytes is refused 9. Without LOG, standard input is read.
 ",
 };
+
+// A buffer that the longest log fills.
+fn log_buffer() -> [u8; LONGEST_LOG]
+    ensures { longest_log ≡ length result }
+{
+    input::buffer(0)
+}
+
+// Room for the text of any log.
+fn text_buffer() -> [u8; TEXT_ROOM]
+    ensures { text_room ≡ length result }
+{
+    input::buffer(0)
+}
 
 // Prints what is said of a log that begins with these bytes and has more.
 fn print_longer(rt: &(impl Print + Eprint), start: &[u8]) -> Result<(), Failure>
@@ -43,8 +57,8 @@ fn explain(rt: &impl Eprint, number: u32, offset: usize) {
 }
 
 fn print_opinion(rt: &(impl Print + Eprint), from: &mut Source) -> Result<(), Failure> {
-    let mut buf: [u8; LONGEST_LOG] = input::buffer(0);
-    let mut out: [u8; TEXT_ROOM] = input::buffer(0);
+    let mut buf = log_buffer();
+    let mut out = text_buffer();
     let Some(log) = input::read(from, &mut buf)? else {
         return print_longer(rt, &buf);
     };

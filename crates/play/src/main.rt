@@ -9,7 +9,8 @@
 
 mod messages;
 
-ghost use Rattle.std.specs.Prelude.{◌≤◌, length};
+ghost use Rattle.std.specs.Prelude.{◌≤◌, ◌≡◌, length};
+ghost use Rattle.input.specs.Reads.{Taken};
 ghost use Rattle.log_reader.specs.Listed.{room};
 ghost use Rattle.log_reader.specs.Views.{reader_of};
 ghost use Rattle.play_text.specs.Played.{buffer, text_room, played};
@@ -30,6 +31,28 @@ where standard error says what the refusal means. The line is printed as the log
 Without LOG, standard input is read.
 ",
 };
+
+// The buffer through which the log is read.
+fn log_buffer() -> [u8; BUFFER]
+    ensures { buffer ≡ length result }
+{
+    input::buffer(0)
+}
+
+// Room for the text of any piece, and of the end.
+fn text_buffer() -> [u8; TEXT_ROOM]
+    ensures { text_room ≡ length result }
+{
+    input::buffer(0)
+}
+
+// Reads what there is of the log into the whole buffer.
+fn read_piece(from: &mut Source, log: &mut [u8]) -> std::io::Result<Option<usize>>
+    requires { buffer ≡ length log.old }
+    ensures { Taken (length log.old) result }
+{
+    input::read_from(from, log)
+}
 
 // Reads a piece and prints the text that it brings: the log goes on, or a record was refused and nothing behind it is read. The log's list
 // of pairs lives in a run of its own.
@@ -76,11 +99,11 @@ fn finish(
 
 // Reads a log piece by piece to its end. It comes to one: each piece has a byte at least, and the reader counts them.
 fn play(rt: &(impl Print + Eprint), from: &mut Source) -> Result<(), Failure> {
-    let mut log: [u8; BUFFER] = input::buffer(0);
+    let mut log = log_buffer();
     let mut list = log_reader::pair_buffer();
-    let mut out: [u8; TEXT_ROOM] = input::buffer(0);
+    let mut out = text_buffer();
     let mut reader = log_reader::fresh();
-    while let Some(n) = input::read_from(from, &mut log)? {
+    while let Some(n) = read_piece(from, &mut log)? {
         match play_piece(rt, reader, &mut list, &log[..n], &mut out)? {
             ControlFlow::Continue(next) => reader = next,
             ControlFlow::Break(last) => return finish(rt, last, &list, &mut out),

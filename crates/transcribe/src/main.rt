@@ -8,6 +8,9 @@
 
 mod messages;
 
+ghost use Rattle.std.specs.Prelude.{◌≡◌, length};
+ghost use Rattle.transcribe.specs.Answers.{text_room, log_room};
+
 use input::{Failure, Program, Source};
 use transcriber::Untranscribed;
 
@@ -25,9 +28,23 @@ bytes, and its log 1048576. Without TEXT, standard input is read.
 ",
 };
 
+// A buffer that the longest text fills.
+fn text_buffer() -> [u8; TEXT_ROOM]
+    ensures { text_room ≡ length result }
+{
+    input::buffer(0)
+}
+
+// A buffer that the longest log fills.
+fn log_buffer() -> [u8; LOG_ROOM]
+    ensures { log_room ≡ length result }
+{
+    input::buffer(0)
+}
+
 fn transcribe(rt: &(impl Print + Eprint), from: &mut Source) -> Result<(), Failure> {
-    let mut buf: [u8; TEXT_ROOM] = input::buffer(0);
-    let mut log: [u8; LOG_ROOM] = input::buffer(0);
+    let mut buf = text_buffer();
+    let mut log = log_buffer();
     let Some(text) = input::read(from, &mut buf)? else {
         messages::print_longer(rt, &buf);
         return Ok(());
