@@ -118,7 +118,7 @@ pub fn count_arguments<E: Env>(rt: &E, most: usize) -> usize
 }
 
 // Opens the file that an argument names, UTF-8, or standard input where none is asked for.
-fn open(rt: HostRuntime, file: Option<usize>) -> std::io::Result<Source> {
+pub fn open(rt: HostRuntime, file: Option<usize>) -> std::io::Result<Source> {
     let Some(i) = file else {
         return Ok(Source::Standard(rt.stdin()));
     };
@@ -141,7 +141,7 @@ fn put<D: Display + Drop>(buf: &mut [u8], text: D) -> usize
 }
 
 // What a message calls the input: `PROGRAM: `, and then the name that an argument is, or `standard input`. At the front of a buffer.
-fn label<'a, E: Env>(rt: &E, program: &str, file: Option<usize>, buf: &'a mut [u8]) -> &'a [u8]
+pub fn label<'a, E: Env>(rt: &E, program: &str, file: Option<usize>, buf: &'a mut [u8]) -> &'a [u8]
     ensures { length result.now ≤ length buf.old }
 {
     let at = put(buf, format_args!("{program}: "));

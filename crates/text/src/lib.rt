@@ -2,7 +2,7 @@
 // byte 0, and a surrogate takes the form of three bytes.
 #![tactic(auto)]
 
-ghost use Rattle.std.specs.Prelude.{◌≤◌, ◌≡◌, length};
+ghost use Rattle.std.specs.Prelude.{◌+◌, ◌≤◌, ◌≡◌, leb, length};
 ghost use Rattle.text.specs.Utf8.{utf8};
 ghost use Rattle.text.specs.Text.{sign, text, Encodes};
 ghost use Rattle.text.specs.Puts.{Puts};
@@ -28,12 +28,19 @@ pub fn size(words: &[u16]) -> usize
     words.iter().map(|w| width(*w)).sum()
 }
 
+// Whether so many bytes fit at a place of a run that has room for so many in all.
+pub fn has_room(room: usize, at: usize, count: usize) -> bool
+    ensures { result ≡ leb (at + count) room }
+{
+    at <= room && count <= room - at
+}
+
 // Some bytes at a place; answers the place behind them. Where they don't fit, nothing is written, and the answer is the place itself.
 // So the others. The answer is no Option, since `Puts` gives a place either way, from which the next is put.
 pub fn put_bytes(out: &mut [u8], at: usize, bytes: &[u8]) -> usize
     ensures { Puts at bytes.now out.old result out.new }
 {
-    if at <= out.len() && bytes.len() <= out.len() - at {
+    if has_room(out.len(), at, bytes.len()) {
         let behind = at + bytes.len();
         out[at..behind].copy_from_slice(bytes);
         return behind;
