@@ -303,13 +303,14 @@ fn play_at(stdout: Stdout, machine: Machine) -> io::Result<()> {
         list: &[],
         times: NO_TIMES,
     };
-    let mut machines = [machine; 16];
+    let mut row = [machine; 16];
     for (board, kind, key, stamp) in AT_KEYBOARDS {
         let event = event(kind, key, stamp);
-        let answer = row::step_at(&mut machines, given, board, event);
+        let among = row_by_value::step_among(row, given, board, event);
+        row = among.row;
         let told = Given {
             event,
-            answer: answer.map(|told| (told.items, told.sendings)),
+            answer: among.told.map(|told| (told.items, told.sendings)),
         };
         println!(stdout; "  keyboard {board},{told}")?;
     }
