@@ -10,9 +10,9 @@ use Rattle.drill.proofs.lines.write.Goals as goal
 
 pub unreachable-requires : goal.unreachable-requires
 unreachable-requires c =
-    let few : length c.line.result.now ≤ length c.buffer-words.result =
+    let few : length c.line.result.now ≤ length c.word_buffer-words.result =
     rw c.line.ensures (omega (arith, length-take (line_size c.args.text.now) c.args.text.now)) in
-    has_room c.line.result.now c.buffer-words.result few (cc)
+    has_room c.line.result.now c.word_buffer-words.result few (cc)
 
 pub returns-in-Ok : goal.returns-in-Ok
 returns-in-Ok c =

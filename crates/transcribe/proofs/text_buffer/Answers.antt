@@ -1,0 +1,6 @@
+-- `transcribe::text_buffer` meets its contract.
+use Rattle.std.proofs.Common.{arith}
+use Rattle.transcribe.proofs.text_buffer.Goals as goal
+
+pub returns : goal.returns
+returns c = omega (arith, c.buffer.ensures.len)
