@@ -14,11 +14,12 @@ use input::{Failure, Program, Source};
 
 const CONSOLE: Program = Program {
     name: "console",
-    usage: "usage: console [LOG]
-Prints, for each keyboard K that a console's log names, `K: ` and its line, and below it `K: ` and
-`waiting N` or `refused N at OFFSET`; last, if the whole log was refused, `refused N at OFFSET`.
-A log of more than 1048576 bytes is refused 9. Without LOG, standard input is read.
-",
+    usage: &[
+        "usage: console [LOG]\n",
+        "Prints, for each keyboard K that a console's log names, `K: ` and its line, and below it `K: ` and\n",
+        "`waiting N` or `refused N at OFFSET`; last, if the whole log was refused, `refused N at OFFSET`.\n",
+        "A log of more than 1048576 bytes is refused 9. Without LOG, standard input is read.\n",
+    ],
 };
 
 // A buffer that the longest log fills.

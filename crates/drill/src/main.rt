@@ -23,12 +23,13 @@ const LOG_ROOM: usize = 1419933;
 
 const DRILL: Program = Program {
     name: "drill",
-    usage: "usage: drill [T J L SOLO] [LINE] > LOG
-Writes the log that plays a line of UTF-8 text. T is 50 to 1000 milliseconds, J and L are 1
-to 99 percent, SOLO is 0 or 1; without them they are 100 50 50 0. The line has at most 65536
-bytes with its line end, that is at most 21845 characters. Where a line has no log, nothing is
-written, and standard error says why. LINE is a file with the line; without it, standard input is read.
-",
+    usage: &[
+        "usage: drill [T J L SOLO] [LINE] > LOG\n",
+        "Writes the log that plays a line of UTF-8 text. T is 50 to 1000 milliseconds, J and L are 1\n",
+        "to 99 percent, SOLO is 0 or 1; without them they are 100 50 50 0. The line has at most 65536\n",
+        "bytes with its line end, that is at most 21845 characters. Where a line has no log, nothing is\n",
+        "written, and standard error says why. LINE is a file with the line; without it, standard input is read.\n",
+    ],
 };
 
 // The buffer into which the text is read.

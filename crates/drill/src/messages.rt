@@ -40,10 +40,10 @@ fn explain(rt: &impl Eprint, number: u32, position: usize, line: &[u8]) {
             "drill: the line is too long: a stamp is above the largest, 1000000000000"
         ),
         8 => eprintln!(rt; "drill: too little room for the log"),
-        10 => eprintln!(rt;
-            "drill: character {position} (from 0) is {}",
-            stranger(line, position)
-        ),
+        10 => {
+            let _ = eprint!(rt; "drill: character {position}");
+            eprintln!(rt; " (from 0) is {}", stranger(line, position))
+        }
         _ => eprintln!(rt; "drill: refused"),
     };
 }
@@ -52,11 +52,13 @@ fn explain(rt: &impl Eprint, number: u32, position: usize, line: &[u8]) {
 pub fn print_unwritten(rt: &impl Eprint, why: Unwritten, line: &[u8]) {
     match why {
         Unwritten::Refused(number, position) => {
-            let _ = eprintln!(rt; "refused {number} at {position}");
+            let _ = eprint!(rt; "refused {number}");
+            let _ = eprintln!(rt; " at {position}");
             explain(rt, number, position, line);
         }
         Unwritten::Damaged(position) => {
-            let _ = eprintln!(rt; "not UTF-8 at {position}");
+            let _ = eprint!(rt; "not UTF-8");
+            let _ = eprintln!(rt; " at {position}");
         }
     }
 }

@@ -6,15 +6,15 @@ use std::fmt::Formatter;
 const BARS: usize = 9;
 
 const NAMES: [&str; BARS] = [
-    "1 ms",
-    "2 ms",
-    "3 to 4 ms",
-    "5 to 9 ms",
-    "10 to 19 ms",
-    "20 to 49 ms",
-    "50 to 99 ms",
-    "from 100 ms",
-    "none",
+    "  1 ms         ",
+    "  2 ms         ",
+    "  3 to 4 ms    ",
+    "  5 to 9 ms    ",
+    "  10 to 19 ms  ",
+    "  20 to 49 ms  ",
+    "  50 to 99 ms  ",
+    "  from 100 ms  ",
+    "  none         ",
 ];
 
 // The margins from which on the next bar counts.
@@ -22,6 +22,8 @@ const ENDS: [u64; BARS - 2] = [2, 3, 5, 10, 20, 50, 100];
 
 // The longest bar.
 const LONGEST: u64 = 50;
+
+const BAR: &str = "##################################################";
 
 #[derive(Clone, Copy)]
 pub struct Histogram([u64; BARS]);
@@ -48,9 +50,8 @@ impl fmt::Display for Histogram {
     fn fmt<W: fmt::Write>(&self, f: &mut Formatter<W>) -> fmt::Result {
         let most = self.0.iter().copied().max().unwrap_or(0).max(1);
         for (name, count) in NAMES.iter().zip(self.0) {
-            write!(f, "  {name:<13}")?;
-            f.write_repeated("#", count.saturating_mul(LONGEST).div_ceil(most) as usize)?;
-            writeln!(f, " {count}")?;
+            let length = count.saturating_mul(LONGEST).div_ceil(most) as usize;
+            writeln!(f, "{name}{} {count}", BAR.get(..length).unwrap_or(BAR))?;
         }
         Ok(())
     }

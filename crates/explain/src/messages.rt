@@ -1,5 +1,4 @@
 // What the program says on standard error, and how to use it.
-use crate::words::Counted;
 use meanings::Meaning;
 use std::io::Stderr;
 
@@ -33,10 +32,16 @@ pub fn print_too_many(stderr: Stderr, events: u64) {
 // Why a log is refused.
 pub fn print_refused(stderr: Stderr, number: u32, offset: usize) {
     let meaning = Meaning(number as u64);
-    let _ = println!(stderr; "explain: record at byte {offset}: {meaning}");
+    let _ = print!(stderr; "explain: record at byte {offset}: ");
+    let _ = println!(stderr; "{meaning}");
 }
 
 pub fn print_not_there(stderr: Stderr, committed: u64) {
-    let characters = Counted(committed, "character", "characters");
-    let _ = println!(stderr; "explain: the log commits {characters} and no more");
+    let characters = if committed == 1 {
+        "character"
+    } else {
+        "characters"
+    };
+    let _ = print!(stderr; "explain: the log commits {committed}");
+    let _ = println!(stderr; " {characters} and no more");
 }

@@ -3,6 +3,7 @@
 ghost use Rattle.std.specs.Prelude.{◌≤◌};
 
 use crate::messages;
+use crate::parts::say;
 use crate::report::Report;
 use crate::steps::{Margin, Step, is_none, is_released, words};
 use crate::words::Word;
@@ -10,9 +11,9 @@ use keylog::LogAnswer;
 use margins::began;
 use pairs::Lent;
 use rules::{Face, Input, Key, Resting, Stamp, Thumb};
+use std::fmt;
 use std::fmt::Formatter;
 use std::io::{Stderr, Stdout};
-use std::{fmt, io};
 
 // So many events fit.
 const MOST: usize = 256;
@@ -148,28 +149,21 @@ impl Picture {
 }
 
 impl Report for Picture {
-    fn accepted(
-        &mut self,
-        _out: Stdout,
-        lent: Lent<'_>,
-        step: &Step,
-        shown: bool,
-    ) -> io::Result<()> {
+    fn accepted(&mut self, _out: Stdout, lent: Lent<'_>, step: &Step, shown: bool) {
         if shown {
             if let Some(place) = self.events.get_mut(self.count) {
                 *place = Some(Drawn::new(lent, step));
             }
             self.count = self.count.saturating_add(1);
         }
-        Ok(())
     }
 
-    fn end(&self, out: Stdout, err: Stderr, _answer: LogAnswer) -> io::Result<()> {
+    fn end(&self, out: Stdout, err: Stderr, _answer: LogAnswer) {
         if self.count > MOST {
             messages::print_too_many(err, self.count as u64);
-            return Ok(());
+            return;
         }
-        print!(out; "{self}")
+        say(out, self);
     }
 }
 
@@ -211,6 +205,15 @@ impl Span {
     }
 }
 
+// The front of an element.
+fn open<W: fmt::Write>(f: &mut Formatter<W>, element: &str, class: &str) -> fmt::Result {
+    write!(f, "{element} class=\"{class}\"")
+}
+
+fn at<W: fmt::Write>(f: &mut Formatter<W>, name: &str, n: u64) -> fmt::Result {
+    write!(f, "{name}=\"{n}\"")
+}
+
 // A bar from x to its right end.
 fn bar<W: fmt::Write>(
     f: &mut Formatter<W>,
@@ -220,10 +223,11 @@ fn bar<W: fmt::Write>(
     right: u64,
 ) -> fmt::Result {
     let width = right.saturating_sub(x).max(1);
-    writeln!(
-        f,
-        "<rect class=\"{class}\" x=\"{x}\" y=\"{y}\" width=\"{width}\" height=\"18\"/>"
-    )
+    open(f, "<rect", class)?;
+    at(f, " x", x)?;
+    at(f, " y", y)?;
+    at(f, " width", width)?;
+    f.write_str(" height=\"18\"/>\n")
 }
 
 fn line<W: fmt::Write>(
@@ -234,10 +238,20 @@ fn line<W: fmt::Write>(
     right: u64,
     bottom: u64,
 ) -> fmt::Result {
-    writeln!(
-        f,
-        "<line class=\"{class}\" x1=\"{x}\" y1=\"{y}\" x2=\"{right}\" y2=\"{bottom}\"/>"
-    )
+    open(f, "<line", class)?;
+    at(f, " x1", x)?;
+    at(f, " y1", y)?;
+    at(f, " x2", right)?;
+    at(f, " y2", bottom)?;
+    f.write_str("/>\n")
+}
+
+// The front of a text.
+fn open_text<W: fmt::Write>(f: &mut Formatter<W>, class: &str, x: u64, y: u64) -> fmt::Result {
+    open(f, "<text", class)?;
+    at(f, " x", x)?;
+    at(f, " y", y)?;
+    f.write_str(">")
 }
 
 fn text<W: fmt::Write, T: fmt::Display + Drop>(
@@ -247,10 +261,8 @@ fn text<W: fmt::Write, T: fmt::Display + Drop>(
     y: u64,
     text: T,
 ) -> fmt::Result {
-    writeln!(
-        f,
-        "<text class=\"{class}\" x=\"{x}\" y=\"{y}\">{text}</text>"
-    )
+    open_text(f, class, x, y)?;
+    write!(f, "{text}</text>\n")
 }
 
 // A key's bar in its row, with its number and its plain face.
@@ -268,7 +280,8 @@ fn letter<W: fmt::Write>(f: &mut Formatter<W>, key: Key, x: u64, right: u64) -> 
 }
 
 fn time<W: fmt::Write>(f: &mut Formatter<W>, class: &str, x: u64, y: u64, ms: u64) -> fmt::Result {
-    text(f, class, x, y, format_args!("{ms} ms"))
+    open_text(f, class, x, y)?;
+    write!(f, "{ms} ms</text>\n")
 }
 
 // A tick where a deadline was set, if it lies in the picture.
@@ -286,11 +299,8 @@ fn deadline<W: fmt::Write>(f: &mut Formatter<W>, span: Span, event: &Drawn) -> f
 fn decision<W: fmt::Write>(f: &mut Formatter<W>, span: Span, event: &Drawn) -> fmt::Result {
     let x = span.across(event.stamp);
     if let [Some(word), other] = event.words {
-        write!(
-            f,
-            "<text class=\"line\" x=\"{x}\" y=\"{ROW_LINE}\">{}",
-            Escaped(word)
-        )?;
+        open_text(f, "line", x, ROW_LINE)?;
+        write!(f, "{}", Escaped(word))?;
         if let Some(other) = other {
             write!(f, "{}", Escaped(other))?;
         }

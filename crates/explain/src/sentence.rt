@@ -1,7 +1,7 @@
 // One event in a sentence: what was late before it, what it did, by which numbers, and what would have been a little sooner or later. Every
 // number comes from `why`, every decision from `engine`.
 use crate::steps::{Step, is_none, words};
-use crate::words::Said;
+use crate::words::{Said, The};
 use margins::{Compared, began};
 use pairs::Lent;
 use rules::{Input, Item, Items, Key, Lag, Resting, Stamp, Thumb};
@@ -101,14 +101,14 @@ impl Sentence {
                 let key = Said(key);
                 let nearer = nearer(waits::second_character_takes_thumb(a, b));
                 write!(f, ", which came {gap} after {key}")?;
-                write!(f, "; the thumb is {nearer} to this press than to {key}")
+                write!(f, "; the thumb is {nearer}this press than to {key}")
             }
             // Whether a second thumb takes the character.
             Resting::S5(thumb, _, key, _) => {
-                let (thumb, key) = (Said(thumb), Said(key));
+                let (thumb, key) = (The(thumb), Said(key));
                 let nearer = nearer(!waits::second_thumb_takes_character(a, b));
-                write!(f, ", which came {gap} after the {thumb}")?;
-                write!(f, "; {key} is {nearer} to the {thumb} than to this press")
+                write!(f, ", which came {gap} after {thumb}")?;
+                write!(f, "; {key} is {nearer}{thumb} than to this press")
             }
             // Whether a pair stays together.
             Resting::S7(key, _, second, _) => write!(f, "{}", Stays { key, second, a, b }),
@@ -222,21 +222,25 @@ impl fmt::Display for What {
         match self.input {
             Input::CharacterDown(key) => {
                 let held = held::is_held(self.held, key);
-                let pressed = if held { "repeated" } else { "pressed" };
-                write!(f, "{} {pressed}", Said(key))
+                let pressed = if held { " repeated" } else { " pressed" };
+                write!(f, "{}{pressed}", Said(key))
             }
             Input::CharacterUp(key) => {
                 let held = held::is_held(self.held, key);
-                let missing = if held { "" } else { ", not held," };
-                write!(f, "{}{missing} released", Said(key))
+                let released = if held {
+                    " released"
+                } else {
+                    ", not held, released"
+                };
+                write!(f, "{}{released}", Said(key))
             }
             Input::ThumbDown(thumb) => {
-                let again = if is_set(self.resting, thumb) {
-                    " again"
+                let pressed = if is_set(self.resting, thumb) {
+                    " pressed again"
                 } else {
-                    ""
+                    " pressed"
                 };
-                write!(f, "{} pressed{again}", Said(thumb))
+                write!(f, "{}{pressed}", Said(thumb))
             }
             Input::ThumbUp(thumb) => write!(f, "{} released", Said(thumb)),
             Input::FunctionDown => f.write_str("function key pressed"),
@@ -279,8 +283,8 @@ impl fmt::Display for Began {
             Resting::S2(key, _) | Resting::S5(_, _, key, _) | Resting::S7(_, _, key, _) => {
                 write!(f, "{}", Said(key))
             }
-            Resting::S3(thumb, _) | Resting::S4(_, _, thumb, _) => write!(f, "the {}", Said(thumb)),
-            Resting::S6(thumb, ..) => write!(f, "the {}'s release", Said(thumb)),
+            Resting::S3(thumb, _) | Resting::S4(_, _, thumb, _) => write!(f, "{}", The(thumb)),
+            Resting::S6(thumb, ..) => write!(f, "{}'s release", The(thumb)),
             Resting::S8(key, ..) => write!(f, "{}'s release", Said(key)),
         }
     }
@@ -318,7 +322,7 @@ impl fmt::Display for Missed {
             Resting::S4(key, ..) | Resting::S6(_, _, key, ..) | Resting::S8(_, _, key, ..) => {
                 write!(f, "{} was still down", Said(key))?;
             }
-            Resting::S5(thumb, ..) => write!(f, "the {} was still down", Said(thumb))?,
+            Resting::S5(thumb, ..) => write!(f, "{} was still down", The(thumb))?,
             Resting::S7(..) => f.write_str("both keys were still down")?,
             Resting::S1 => f.write_str("nothing followed")?,
         }
@@ -327,7 +331,7 @@ impl fmt::Display for Missed {
 }
 
 fn nearer(is: bool) -> &'static str {
-    if is { "nearer" } else { "no nearer" }
+    if is { "nearer to " } else { "no nearer to " }
 }
 
 // Whether a pair stays together.
@@ -344,7 +348,7 @@ impl fmt::Display for Stays {
         let (key, second) = (Said(self.key), Said(self.second));
         let nearer = nearer(waits::pair_stays(self.a, self.b));
         write!(f, ", which came {} after {key}", Said(self.a))?;
-        write!(f, "; {second} is {nearer} to {key} than to this press")
+        write!(f, "; {second} is {nearer}{key} than to this press")
     }
 }
 
@@ -374,7 +378,7 @@ impl fmt::Display for Left {
         match self.0.after.resting {
             _ if self.0.stays() => f.write_str("nothing yet"),
             Resting::S4(key, _, thumb, _) | Resting::S5(thumb, _, key, _) => {
-                write!(f, "{} and the {} together", Said(key), Said(thumb))
+                write!(f, "{} and {} together", Said(key), The(thumb))
             }
             Resting::S7(key, _, second, _) => {
                 write!(f, "{} and {} together", Said(key), Said(second))

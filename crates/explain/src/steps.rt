@@ -109,10 +109,10 @@ impl From<Item> for Character {
 impl fmt::Display for Shift {
     fn fmt<W: fmt::Write>(&self, f: &mut Formatter<W>) -> fmt::Result {
         let side = match self.side {
-            Side::Sooner => "sooner",
-            Side::Later => "later",
+            Side::Sooner => " ms sooner",
+            Side::Later => " ms later",
         };
-        write!(f, "{} {side}", Said(self.by))
+        write!(f, "{}{side}", self.by.0)
     }
 }
 

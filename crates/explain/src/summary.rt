@@ -36,9 +36,9 @@ impl Totals {
 
 impl fmt::Display for Totals {
     fn fmt<W: fmt::Write>(&self, f: &mut Formatter<W>) -> fmt::Result {
-        let events = Counted(self.events, "event", "events");
-        let marks = Counted(self.marks, "mark", "marks");
-        write!(f, "{events} accepted; {} committed: ", self.committed)?;
+        let events = Counted(self.events, " event accepted; ", " events accepted; ");
+        let marks = Counted(self.marks, " mark\n", " marks\n");
+        write!(f, "{events}{} committed: ", self.committed)?;
         write!(f, "{} with a thumb, ", self.chords)?;
         write!(f, "{} of two letters, {marks}", self.pairs)
     }
@@ -77,10 +77,10 @@ impl Call {
 impl fmt::Display for Call {
     fn fmt<W: fmt::Write>(&self, f: &mut Formatter<W>) -> fmt::Result {
         let word = Word(self.word);
-        write!(f, "{}: ", self.shift)?;
+        write!(f, "{}", self.shift)?;
         match self.character {
-            Some(number) => write!(f, "character {number}, {word}")?,
-            None => write!(f, "{word} not yet")?,
+            Some(number) => write!(f, ": character {number}, {word}")?,
+            None => write!(f, ": {word} not yet")?,
         }
         write!(f, ", at {}", self.stamp.0)
     }

@@ -1,4 +1,5 @@
 // The table: a row for each event, and below it what was committed in all and the closest calls.
+use crate::parts::say;
 use crate::report::Report;
 use crate::screen::{Screen, Tail};
 use crate::sentence::Sentence;
@@ -8,9 +9,9 @@ use crate::words::Field;
 use keylog::LogAnswer;
 use pairs::Lent;
 use rules::{Event, Key, Kind, Refusal, Stamp};
+use std::fmt;
 use std::fmt::Formatter;
 use std::io::{Stderr, Stdout};
-use std::{fmt, io};
 
 // The columns of an event, and of what was late.
 const EVENT_WIDTH: usize = 9;
@@ -36,77 +37,74 @@ impl Table {
 }
 
 impl Report for Table {
-    fn begin(&self, out: Stdout) -> io::Result<()> {
-        println!(out;
-            "stamp         event    late       state due           screen                 what and why"
-        )
+    fn begin(&self, out: Stdout) {
+        say(
+            out,
+            "stamp         event    late       state due           screen                 what and why\n",
+        );
     }
 
-    fn accepted(
-        &mut self,
-        out: Stdout,
-        lent: Lent<'_>,
-        step: &Step,
-        shown: bool,
-    ) -> io::Result<()> {
+    fn accepted(&mut self, out: Stdout, lent: Lent<'_>, step: &Step, shown: bool) {
         let committed = self.totals.committed;
         self.totals.count(step.items);
         self.tail.push(step.items);
         if !shown {
-            return Ok(());
+            return;
         }
         if let Some(margin) = step.closeness(lent).margin() {
             self.calls.note(Call::new(step, margin, committed));
         }
-        let screen = Screen {
-            tail: self.tail,
-            resting: step.after.resting,
-        };
-        let row = Row {
+        let sentence = Sentence::new(lent, *step);
+        let columns = Columns {
             step: *step,
+            late: sentence.numbers.late,
             due: step.deadline(lent),
-            screen,
-            sentence: Sentence::new(lent, *step),
+            screen: Screen {
+                tail: self.tail,
+                resting: step.after.resting,
+            },
         };
-        println!(out; "{row}")
+        let _ = print!(out; "{columns}");
+        say(out, format_args!("{sentence}\n"));
     }
 
-    fn refused(&mut self, out: Stdout, event: Event, refusal: Refusal) -> io::Result<()> {
+    fn refused(&mut self, out: Stdout, event: Event, refusal: Refusal) {
         let why = match refusal {
-            Refusal::KeyNotAllowed => ": kind or key not allowed",
-            Refusal::AboveLargest => ": stamp above the largest",
-            Refusal::BeforeLast => ": stamp before the last accepted one",
-            Refusal::TooManyHeld => ": press of a new key while 6 are held",
-            _ => "",
+            Refusal::KeyNotAllowed => ": kind or key not allowed\n",
+            Refusal::AboveLargest => ": stamp above the largest\n",
+            Refusal::BeforeLast => ": stamp before the last accepted one\n",
+            Refusal::TooManyHeld => ": press of a new key while 6 are held\n",
+            _ => "\n",
         };
-        println!(out; "{}refused {}{why}", Front(event), refusal.number())
+        let _ = print!(out; "{}", Front(event));
+        say(out, format_args!("refused {}{why}", refusal.number()));
     }
 
-    fn end(&self, out: Stdout, _err: Stderr, answer: LogAnswer) -> io::Result<()> {
+    fn end(&self, out: Stdout, _err: Stderr, answer: LogAnswer) {
         match answer.number {
-            0 => println!(out; "waiting {}", answer.waiting)?,
-            number => println!(out; "refused {number} at {}", answer.offset)?,
+            0 => say(out, format_args!("waiting {}\n", answer.waiting)),
+            number => say(out, format_args!("refused {number} at {}\n", answer.offset)),
         }
-        println!(out; "{}", self.totals)?;
-        print!(out; "{}", self.calls)
+        say(out, self.totals);
+        say(out, self.calls);
     }
 }
 
-// A row in the table.
+// What stands before the sentence of a row.
 #[derive(Clone, Copy)]
-struct Row {
+struct Columns {
     step: Step,
+    late: bool,
     // the deadline of what rests behind it
     due: Option<Stamp>,
     screen: Screen,
-    sentence: Sentence,
 }
 
-impl fmt::Display for Row {
+impl fmt::Display for Columns {
     fn fmt<W: fmt::Write>(&self, f: &mut Formatter<W>) -> fmt::Result {
         write!(f, "{}", Front(self.step.event))?;
         let mut late = Field::new(f);
-        if self.sentence.numbers.late {
+        if self.late {
             for word in words(self.step.items).into_iter().flatten() {
                 late.word(word)?;
             }
@@ -117,7 +115,7 @@ impl fmt::Display for Row {
             Some(due) => write!(f, "{:<13} ", due.0)?,
             None => write!(f, "{:<13} ", "-")?,
         }
-        write!(f, "{}{}", self.screen, self.sentence)
+        write!(f, "{}", self.screen)
     }
 }
 

@@ -102,7 +102,11 @@ impl Answers {
 impl fmt::Display for Answers {
     fn fmt<W: fmt::Write>(&self, f: &mut Formatter<W>) -> fmt::Result {
         let (presses, otherwise) = (self.presses, self.otherwise);
-        write!(f, "{otherwise} of {}", Counted(presses, "press", "presses"))?;
+        write!(
+            f,
+            "{otherwise} of {}",
+            Counted(presses, " press", " presses")
+        )?;
         if presses == 0 {
             return Ok(());
         }
@@ -131,15 +135,15 @@ fn tried(name: &'static str, value: u16, settings: Settings) -> Option<Trial> {
 }
 
 fn with_t(t: u16, settings: Settings) -> Option<Trial> {
-    tried("T", t, Settings { t, ..settings })
+    tried("  T=", t, Settings { t, ..settings })
 }
 
 fn with_j(j: u8, settings: Settings) -> Option<Trial> {
-    tried("J", j as u16, Settings { j, ..settings })
+    tried("  J=", j as u16, Settings { j, ..settings })
 }
 
 fn with_l(l: u8, settings: Settings) -> Option<Trial> {
-    tried("L", l as u16, Settings { l, ..settings })
+    tried("  L=", l as u16, Settings { l, ..settings })
 }
 
 #[derive(Clone, Copy)]
@@ -173,7 +177,7 @@ impl Trials {
 impl fmt::Display for Trials {
     fn fmt<W: fmt::Write>(&self, f: &mut Formatter<W>) -> fmt::Result {
         for trial in self.0.iter().flatten() {
-            writeln!(f, "  {}={}: {}", trial.name, trial.value, trial.answers)?;
+            writeln!(f, "{}{}: {}", trial.name, trial.value, trial.answers)?;
         }
         Ok(())
     }

@@ -22,6 +22,16 @@ impl fmt::Display for Said<Thumb> {
     }
 }
 
+// A thumb with its article.
+#[derive(Clone, Copy)]
+pub struct The(pub Thumb);
+
+impl fmt::Display for The {
+    fn fmt<W: fmt::Write>(&self, f: &mut Formatter<W>) -> fmt::Result {
+        write!(f, "the {}", Said(self.0))
+    }
+}
+
 impl fmt::Display for Said<Lag> {
     fn fmt<W: fmt::Write>(&self, f: &mut Formatter<W>) -> fmt::Result {
         write!(f, "{} ms", self.0.0)
@@ -74,7 +84,7 @@ impl fmt::Display for Word {
     }
 }
 
-// A count and what is counted, one or more of it.
+// A count, and behind it the words for one and for more.
 #[derive(Clone, Copy)]
 pub struct Counted(pub u64, pub &'static str, pub &'static str);
 
@@ -82,7 +92,7 @@ impl fmt::Display for Counted {
     fn fmt<W: fmt::Write>(&self, f: &mut Formatter<W>) -> fmt::Result {
         let Counted(count, one, more) = *self;
         let name = if count == 1 { one } else { more };
-        write!(f, "{count} {name}")
+        write!(f, "{count}{name}")
     }
 }
 

@@ -163,7 +163,8 @@ fn print_error(err: Stderr, error: Error) {
     let mut buf = [0; 320];
     let n = put(&mut buf, error);
     let text = str::from_utf8(&buf[..n]).unwrap_or("");
-    let _ = println!(err; ": {}", words(text));
+    let _ = print!(err; ": ");
+    let _ = println!(err; "{}", words(text));
 }
 
 // What one argument asks for: how to use the program, or work on the file that it names. An option or nothing is no name, nor is what is
@@ -192,7 +193,8 @@ pub fn read_arguments<E: Env>(rt: &E) -> Result<Option<usize>, Usage> {
 #[derive(Clone, Copy)]
 pub struct Program {
     pub name: &'static str,
-    pub usage: &'static str,
+    // how to use it, in the parts that are written
+    pub usage: &'static [&'static str],
 }
 
 // Runs a step on the input that is asked for.
@@ -249,10 +251,11 @@ impl Program {
 
     // Says how to use the program, where it is asked to on standard output.
     pub fn print_usage(self, rt: HostRuntime, usage: Usage) {
-        let text = self.usage;
-        let _ = match usage {
-            Usage::Help => rt.stdout().print(text),
-            Usage::Unclear => rt.stderr().print(text),
-        };
+        for part in self.usage {
+            let _ = match usage {
+                Usage::Help => rt.stdout().print(*part),
+                Usage::Unclear => rt.stderr().print(*part),
+            };
+        }
     }
 }

@@ -19,13 +19,14 @@ const LIST_ROOM: usize = 2_000;
 
 const MEND: Program = Program {
     name: "mend",
-    usage: "usage: mend [DAMAGED] > LOG
-Copies the records of a log that the reader accepts after the ones already copied, and drops the others.
-Standard error lists the first 1000 dropped, `dropped N at OFFSET`, and says how many were dropped in all.
-If the first record is not good settings, or the second is a list of pairs that is not accepted, the log
-is refused: nothing is written, and standard error says `refused N`. So is one of more than 1048576 bytes.
-Without DAMAGED, standard input is read.
-",
+    usage: &[
+        "usage: mend [DAMAGED] > LOG\n",
+        "Copies the records of a log that the reader accepts after the ones already copied, and drops the others.\n",
+        "Standard error lists the first 1000 dropped, `dropped N at OFFSET`, and says how many were dropped in all.\n",
+        "If the first record is not good settings, or the second is a list of pairs that is not accepted, the log\n",
+        "is refused: nothing is written, and standard error says `refused N`. So is one of more than 1048576 bytes.\n",
+        "Without DAMAGED, standard input is read.\n",
+    ],
 };
 
 // A buffer that the longest log that is mended fills.
@@ -52,14 +53,15 @@ fn mend_log(rt: &(impl Print + Eprint), log: &[u8], out: &mut [u8]) -> Result<()
     let mended = mender::mend(log, out, &mut list);
     let number = mended.number;
     if number != 0 {
-        let meaning = Meaning(number as u64);
-        let _ = eprintln!(rt; "mend: refused {number}, nothing is written: {meaning}");
+        let _ = eprint!(rt; "mend: refused {number}, nothing is written: ");
+        let _ = eprintln!(rt; "{}", Meaning(number as u64));
         return Ok(());
     }
     rt.write_all(&out[..mended.bytes]).map_err(Failure::Output)?;
     let (records, _) = list.as_chunks::<2>();
     for [offset, number] in records.iter().take(mended.listed) {
-        let _ = eprintln!(rt; "mend: dropped {number} at {offset}: {}", Meaning(*number));
+        let _ = eprint!(rt; "mend: dropped {number} at {offset}: ");
+        let _ = eprintln!(rt; "{}", Meaning(*number));
     }
     let _ = eprintln!(rt; "mend: {} dropped in all", mended.dropped);
     Ok(())

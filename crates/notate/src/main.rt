@@ -20,13 +20,14 @@ const TEXT_ROOM: usize = ROOM_PER_BYTE * LONGEST_LOG + ROOM_BESIDES;
 
 const NOTATE: Program = Program {
     name: "notate",
-    usage: "usage: notate [LOG] > TEXT
-Writes the keystrokes of a recorded log as text, one record a line:
-T=100 J=50 L=50 solo=0, T_s=100 N=50 21+24=U+30F4, 21@0, 21 up@59, L@30, R up@60, fn@70, tick 99
-`transcribe` makes the log of it again. A refused log is written up to the record that is refused, and
-a last line `# refused N at OFFSET: ..`, and standard error, say why. A log has at most 1048576 bytes.
-Without LOG, standard input is read.
-",
+    usage: &[
+        "usage: notate [LOG] > TEXT\n",
+        "Writes the keystrokes of a recorded log as text, one record a line:\n",
+        "T=100 J=50 L=50 solo=0, T_s=100 N=50 21+24=U+30F4, 21@0, 21 up@59, L@30, R up@60, fn@70, tick 99\n",
+        "`transcribe` makes the log of it again. A refused log is written up to the record that is refused, and\n",
+        "a last line `# refused N at OFFSET: ..`, and standard error, say why. A log has at most 1048576 bytes.\n",
+        "Without LOG, standard input is read.\n",
+    ],
 };
 
 // A buffer that the longest log fills.
@@ -55,10 +56,8 @@ fn print_longer(rt: &impl Eprint, start: &[u8])
 // What a log's number means, on standard error. Nothing for 0.
 fn explain(rt: &impl Eprint, number: u32, offset: usize) {
     if number != 0 {
-        let _ = eprintln!(rt;
-            "notate: record at byte {offset}: {}",
-            Meaning(number as u64)
-        );
+        let _ = eprint!(rt; "notate: record at byte {offset}: ");
+        let _ = eprintln!(rt; "{}", Meaning(number as u64));
     }
 }
 

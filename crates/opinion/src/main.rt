@@ -15,11 +15,12 @@ use status_line::Printed;
 
 const OPINION: Program = Program {
     name: "opinion",
-    usage: "usage: opinion [LOG]
-Prints the second opinion on a recorded log, which is what `play` prints of it: the line, and below it
-`waiting N`, or `refused N at OFFSET`, where standard error says what the refusal means. A log with
-pairs is refused 14. A log of more than 1048576 bytes is refused 9. Without LOG, standard input is read.
-",
+    usage: &[
+        "usage: opinion [LOG]\n",
+        "Prints the second opinion on a recorded log, which is what `play` prints of it: the line, and below it\n",
+        "`waiting N`, or `refused N at OFFSET`, where standard error says what the refusal means. A log with\n",
+        "pairs is refused 14. A log of more than 1048576 bytes is refused 9. Without LOG, standard input is read.\n",
+    ],
 };
 
 // A buffer that the longest log fills.
@@ -49,10 +50,8 @@ fn print_longer(rt: &(impl Print + Eprint), start: &[u8]) -> Result<(), Failure>
 // What a log's number means, on standard error. Nothing for 0. There is room for all words, so 8 does not come.
 fn explain(rt: &impl Eprint, number: u32, offset: usize) {
     if number != 0 {
-        let _ = eprintln!(rt;
-            "opinion: record at byte {offset}: {}",
-            Meaning(number as u64)
-        );
+        let _ = eprint!(rt; "opinion: record at byte {offset}: ");
+        let _ = eprintln!(rt; "{}", Meaning(number as u64));
     }
 }
 

@@ -25,11 +25,12 @@ use std::ops::ControlFlow;
 
 const PLAY: Program = Program {
     name: "play",
-    usage: "usage: play [LOG]
-Prints the line that a recorded log gives, and below it `waiting N`, or `refused N at OFFSET`,
-where standard error says what the refusal means. The line is printed as the log arrives.
-Without LOG, standard input is read.
-",
+    usage: &[
+        "usage: play [LOG]\n",
+        "Prints the line that a recorded log gives, and below it `waiting N`, or `refused N at OFFSET`,\n",
+        "where standard error says what the refusal means. The line is printed as the log arrives.\n",
+        "Without LOG, standard input is read.\n",
+    ],
 };
 
 // The buffer through which the log is read.

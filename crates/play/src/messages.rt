@@ -11,6 +11,9 @@ pub fn explain(rt: &impl Eprint, number: u32, offset: usize)
     let _ = match number {
         0 => Ok(()),
         9 => eprintln!(rt; "play: the log is longer than 1000000000000 bytes"),
-        _ => eprintln!(rt; "play: record at byte {offset}: {}", Meaning(number as u64)),
+        _ => {
+            let _ = eprint!(rt; "play: record at byte {offset}: ");
+            eprintln!(rt; "{}", Meaning(number as u64))
+        }
     };
 }

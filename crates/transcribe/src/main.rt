@@ -20,12 +20,13 @@ const LOG_ROOM: usize = 1048576;
 
 const TRANSCRIBE: Program = Program {
     name: "transcribe",
-    usage: "usage: transcribe [TEXT] > LOG
-Writes the log of keystrokes that are written as text, with commas or line ends between them:
-T=100 J=50 L=50 solo=0, T_s=100 N=50 21+24=U+30F4, 21@0, 21 up@59, L@30, R up@60, fn@70, tick 99
-# begins a comment. Whether a log is accepted is not asked here: play tells. A text has at most 4194432
-bytes, and its log 1048576. Without TEXT, standard input is read.
-",
+    usage: &[
+        "usage: transcribe [TEXT] > LOG\n",
+        "Writes the log of keystrokes that are written as text, with commas or line ends between them:\n",
+        "T=100 J=50 L=50 solo=0, T_s=100 N=50 21+24=U+30F4, 21@0, 21 up@59, L@30, R up@60, fn@70, tick 99\n",
+        "# begins a comment. Whether a log is accepted is not asked here: play tells. A text has at most 4194432\n",
+        "bytes, and its log 1048576. Without TEXT, standard input is read.\n",
+    ],
 };
 
 // A buffer that the longest text fills.

@@ -44,8 +44,12 @@ pub fn print_wrong(rt: &impl Eprint, place: Place, expected: Expected) {
         place.line, place.column
     );
     let _ = match expected {
-        Expected::After(field) => eprintln!(rt; "before this, expected {}", after(field)),
-        Expected::AtMost(most) => eprintln!(rt; "expected a number of at most {most}"),
-        Expected::FewerPairs => eprintln!(rt; "expected at most 16383 pairs"),
+        Expected::After(field) => {
+            let _ = eprint!(rt; "before this, expected ");
+            eprint!(rt; "{}", after(field))
+        }
+        Expected::AtMost(most) => eprint!(rt; "expected a number of at most {most}"),
+        Expected::FewerPairs => eprint!(rt; "expected at most 16383 pairs"),
     };
+    let _ = eprintln!(rt; "");
 }

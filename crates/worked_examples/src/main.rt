@@ -3,12 +3,13 @@
 // how far the next deadline lies from the event's stamp. A backspace is written `<-`, a mark `<L>` or `<R>`, an empty face `-`.
 #![tactic(auto)]
 
+mod parts;
 mod printed;
 
 use pairs::{Lent, Times};
-use printed::{Asked, Given};
+use parts::{say, spell};
+use printed::{Given, say_asked, say_given};
 use rules::{Event, Key, Machine, Resting, Settings, Stamp};
-use std::io;
 use std::io::Stdout;
 
 // A line of a table: what is done at the machine that the lines before it have left.
@@ -46,22 +47,25 @@ const fn event(kind: u8, key: u8, stamp: u64) -> Event {
 }
 
 // How far a machine's deadline lies from a stamp, on a line.
-fn ask(stdout: Stdout, given: Lent<'_>, machine: Machine, stamp: Stamp) -> io::Result<()> {
-    let asked = Asked(engine::distance(given, machine, stamp));
-    println!(stdout; "  asked @{}: {asked}", stamp.0)
+fn ask(stdout: Stdout, given: Lent<'_>, machine: Machine, stamp: Stamp) {
+    spell(stdout, format_args!("  asked @{}", stamp.0));
+    say(stdout, ": ");
+    say_asked(stdout, engine::distance(given, machine, stamp));
 }
 
 // One event, with what it gave back on a line; the machine after it.
-fn step(stdout: Stdout, given: Lent<'_>, machine: Machine, event: Event) -> io::Result<Machine> {
+fn step(stdout: Stdout, given: Lent<'_>, machine: Machine, event: Event) -> Machine {
     let answer = engine::step(given, machine, event);
     let after = answer.map_or(machine, |done| done.machine);
     let told = Given {
         event,
         answer: answer.map(|done| (done.items, done.sendings)),
     };
-    let next = Asked(engine::distance(given, after, event.stamp));
-    println!(stdout; " {told}, next {next}")?;
-    Ok(after)
+    say(stdout, " ");
+    say_given(stdout, told);
+    say(stdout, ", next ");
+    say_asked(stdout, engine::distance(given, after, event.stamp));
+    after
 }
 
 // A machine that is not there stands in as one that refuses everything.
@@ -74,36 +78,37 @@ fn stand_in(settings: Settings) -> Machine {
     }
 }
 
-fn open(stdout: Stdout, settings: Settings) -> io::Result<Machine> {
+fn open(stdout: Stdout, settings: Settings) -> Machine {
     let Settings { t, j, l, solo } = settings;
-    print!(stdout; "T {t}, J {j}, L {l}, solo {solo}: ")?;
+    spell(stdout, format_args!("T {t}, J {j}, L {l}, solo {solo}"));
     match Machine::open(settings) {
         Ok(machine) => {
-            println!(stdout; "opened, longest wait {}", engine::longest_wait(settings).0)?;
-            Ok(machine)
+            let longest = engine::longest_wait(settings).0;
+            spell(stdout, format_args!(": opened, longest wait {longest}\n"));
+            machine
         }
         Err(refusal) => {
-            println!(stdout; "refused {}", refusal.number())?;
-            Ok(stand_in(settings))
+            let _ = println!(stdout; ": refused {}", refusal.number());
+            stand_in(settings)
         }
     }
 }
 
-fn play(stdout: Stdout, given: Lent<'_>, first: Machine, table: &[Row]) -> io::Result<Machine> {
+fn play(stdout: Stdout, given: Lent<'_>, first: Machine, table: &[Row]) -> Machine {
     let mut machine = first;
     for row in table {
         match *row {
-            Open(t, j, l, solo) => machine = open(stdout, Settings { t, j, l, solo })?,
+            Open(t, j, l, solo) => machine = open(stdout, Settings { t, j, l, solo }),
             Step(kind, key, stamp) => {
-                machine = step(stdout, given, machine, event(kind, key, stamp))?
+                machine = step(stdout, given, machine, event(kind, key, stamp))
             }
             Try(kind, key, stamp) => {
-                step(stdout, given, machine, event(kind, key, stamp))?;
+                step(stdout, given, machine, event(kind, key, stamp));
             }
-            Ask(stamp) => ask(stdout, given, machine, Stamp(stamp))?,
+            Ask(stamp) => ask(stdout, given, machine, Stamp(stamp)),
         }
     }
-    Ok(machine)
+    machine
 }
 
 // T_s and N where no pairs are lent: they stand for nothing.
@@ -196,7 +201,7 @@ const NO_PAIRS: [Row; 73] = [
     Step(DOWN, 21, 30),
 ];
 
-fn no_pairs(stdout: Stdout, machine: Machine) -> io::Result<Machine> {
+fn no_pairs(stdout: Stdout, machine: Machine) -> Machine {
     let given = Lent {
         list: &[],
         times: NO_TIMES,
@@ -224,19 +229,18 @@ const ONE_UP: [Row; 4] = [
 // A third letter that is as near as the two are to each other parts them.
 const THIRD_LETTER: [Row; 2] = [Try(DOWN, 23, 80), Try(DOWN, 23, 81)];
 
-fn two_letters(stdout: Stdout, machine: Machine) -> io::Result<()> {
+fn two_letters(stdout: Stdout, machine: Machine) {
     let given = Lent {
         list: &[PAIR],
         times: Times { ts: 60, n: 50 },
     };
-    let both = play(stdout, given, machine, &BOTH_DOWN)?;
-    play(stdout, given, both, &ONE_UP)?;
-    play(stdout, given, both, &THIRD_LETTER)?;
-    Ok(())
+    let both = play(stdout, given, machine, &BOTH_DOWN);
+    play(stdout, given, both, &ONE_UP);
+    play(stdout, given, both, &THIRD_LETTER);
 }
 
 // What is not accepted is refused 12 before anything else: a list, T_s or N; and then a list that the waiting letters are no pair of.
-fn lent_refused(stdout: Stdout, machine: Machine) -> io::Result<()> {
+fn lent_refused(stdout: Stdout, machine: Machine) {
     let times = Times { ts: 60, n: 50 };
     let first = event(DOWN, 21, 0);
     let twice = [PAIR, 0x16_15_3042];
@@ -248,7 +252,7 @@ fn lent_refused(stdout: Stdout, machine: Machine) -> io::Result<()> {
         },
         machine,
         first,
-    )?;
+    );
     let itself = [0x15_15_3042];
     step(
         stdout,
@@ -258,7 +262,7 @@ fn lent_refused(stdout: Stdout, machine: Machine) -> io::Result<()> {
         },
         machine,
         event(7, 21, 0),
-    )?;
+    );
     let surrogate = [0x15_16_D800];
     ask(
         stdout,
@@ -268,20 +272,19 @@ fn lent_refused(stdout: Stdout, machine: Machine) -> io::Result<()> {
         },
         machine,
         Stamp(0),
-    )?;
+    );
     let list = &[PAIR];
     for times in [Times { ts: 49, n: 50 }, Times { ts: 60, n: 100 }] {
-        step(stdout, Lent { list, times }, machine, first)?;
+        step(stdout, Lent { list, times }, machine, first);
     }
     let given = Lent { list, times };
-    let one = step(stdout, given, machine, first)?;
-    let both = step(stdout, given, one, event(DOWN, 22, 40))?;
+    let one = step(stdout, given, machine, first);
+    let both = step(stdout, given, one, event(DOWN, 22, 40));
     let none = Lent {
         list: &[],
         times: NO_TIMES,
     };
-    step(stdout, none, both, event(TICK, 0, 50))?;
-    Ok(())
+    step(stdout, none, both, event(TICK, 0, 50));
 }
 
 // A row of sixteen (10/12): typed at two keyboards, the clock of one far behind the other's, and at the last one; there is no keyboard 16,
@@ -298,7 +301,7 @@ const AT_KEYBOARDS: [(usize, u8, u8, u64); 9] = [
     (1, TICK, 0, 105),
 ];
 
-fn play_at(stdout: Stdout, machine: Machine) -> io::Result<()> {
+fn play_at(stdout: Stdout, machine: Machine) {
     let given = Lent {
         list: &[],
         times: NO_TIMES,
@@ -312,27 +315,29 @@ fn play_at(stdout: Stdout, machine: Machine) -> io::Result<()> {
             event,
             answer: among.told.map(|told| (told.items, told.sendings)),
         };
-        println!(stdout; "  keyboard {board},{told}")?;
+        spell(stdout, format_args!("  keyboard {board},"));
+        say_given(stdout, told);
+        say(stdout, "\n");
     }
-    Ok(())
 }
 
-fn run(stdout: Stdout) -> io::Result<()> {
-    println!(stdout;
-        "Kinds: 1 character down, 2 up, 3 thumb down, 4 up, 5 function, 6 tick. Thumbs: 0 left, 1 right."
-    )?;
+fn run(stdout: Stdout) {
+    say(
+        stdout,
+        "Kinds: 1 character down, 2 up, 3 thumb down, 4 up, 5 function, 6 tick. Thumbs: 0 left, 1 right.\n",
+    );
     let settings = Settings {
         t: 100,
         j: 50,
         l: 50,
         solo: 0,
     };
-    let machine = no_pairs(stdout, stand_in(settings))?;
-    two_letters(stdout, machine)?;
-    lent_refused(stdout, open(stdout, settings)?)?;
-    play_at(stdout, open(stdout, settings)?)
+    let machine = no_pairs(stdout, stand_in(settings));
+    two_letters(stdout, machine);
+    lent_refused(stdout, open(stdout, settings));
+    play_at(stdout, open(stdout, settings));
 }
 
 fn main(rt: HostRuntime) {
-    let _ = run(rt.stdout());
+    run(rt.stdout());
 }

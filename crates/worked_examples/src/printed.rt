@@ -1,7 +1,9 @@
 // How the answers are printed.
+use crate::parts::{say, spell};
 use engine::{Items, Sendings};
 use rules::{Event, Refusal};
 use std::fmt;
+use std::io::Stdout;
 
 // A sign: a character of the layout or of a pair, a mark, or an empty face.
 #[derive(Clone, Copy)]
@@ -58,35 +60,42 @@ impl fmt::Display for Sends {
     }
 }
 
-// An event and what it gave back: the number, the items and what is sent.
+// An event and what it gave back.
 #[derive(Clone, Copy)]
 pub struct Given {
     pub event: Event,
     pub answer: Result<(Items, Sendings), Refusal>,
 }
 
-impl fmt::Display for Given {
-    fn fmt<W: fmt::Write>(&self, f: &mut fmt::Formatter<W>) -> fmt::Result {
-        let Event { kind, key, stamp } = self.event;
-        write!(f, " kind {kind} key {} @{}: ", key.0, stamp.0)?;
-        match self.answer {
-            Ok((items, sent)) => write!(f, "0, commits{}, sends{}", Commits(items), Sends(sent)),
-            Err(refusal) => write!(f, "{}, commits nothing, sends nothing", refusal.number()),
+// The number, the items and what is sent.
+pub fn say_given(stdout: Stdout, given: Given) {
+    let Event { kind, key, stamp } = given.event;
+    let number = given.answer.map_or_else(|refusal| refusal.number(), |_| 0);
+    let (key, stamp) = (key.0, stamp.0);
+    spell(
+        stdout,
+        format_args!(" kind {kind} key {key} @{stamp}: {number}, commits"),
+    );
+    match given.answer {
+        Ok((items, sent)) => say(
+            stdout,
+            format_args!("{}, sends{}", Commits(items), Sends(sent)),
+        ),
+        Err(_) => {
+            for part in [" nothing", ", sends", " nothing"] {
+                say(stdout, part);
+            }
         }
     }
 }
 
-// How far a deadline lies, with its sign, or why that is refused.
-#[derive(Clone, Copy)]
-pub struct Asked(pub Result<Option<i64>, Refusal>);
-
-impl fmt::Display for Asked {
-    fn fmt<W: fmt::Write>(&self, f: &mut fmt::Formatter<W>) -> fmt::Result {
-        match self.0 {
-            Ok(None) => f.write_str("none"),
-            Ok(Some(0)) => f.write_str("0"),
-            Ok(Some(milliseconds)) => write!(f, "{milliseconds:+}"),
-            Err(refusal) => write!(f, "refused {}", refusal.number()),
-        }
+// How far a deadline lies, with its sign, or why that is refused, at the end of a line.
+pub fn say_asked(stdout: Stdout, asked: Result<Option<i64>, Refusal>) {
+    match asked {
+        Ok(None) => say(stdout, "none"),
+        Ok(Some(0)) => say(stdout, "0"),
+        Ok(Some(milliseconds)) => say(stdout, format_args!("{milliseconds:+}")),
+        Err(refusal) => spell(stdout, format_args!("refused {}", refusal.number())),
     }
+    say(stdout, "\n");
 }
