@@ -7,7 +7,6 @@
 //
 // Standard input is empty. Exit 0: all as said. Exit 1: something else came, printed. Exit 2: it could not be tried.
 #define _GNU_SOURCE
-#include <errno.h>
 #include <fcntl.h>
 #include <stdio.h>
 #include <stdlib.h>

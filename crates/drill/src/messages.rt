@@ -1,4 +1,4 @@
-// What the program says on standard error.
+// What the program says on standard error, in parts (docs/DECISIONS.md).
 ghost use Rattle.std.specs.Prelude.{◌≤◌, length};
 ghost use Rattle.drill.specs.Texts.{longest_text};
 

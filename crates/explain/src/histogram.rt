@@ -21,8 +21,6 @@ const NAMES: [&str; BARS] = [
 const ENDS: [u64; BARS - 2] = [2, 3, 5, 10, 20, 50, 100];
 
 // The longest bar.
-const LONGEST: u64 = 50;
-
 const BAR: &str = "##################################################";
 
 #[derive(Clone, Copy)]
@@ -50,7 +48,7 @@ impl fmt::Display for Histogram {
     fn fmt<W: fmt::Write>(&self, f: &mut Formatter<W>) -> fmt::Result {
         let most = self.0.iter().copied().max().unwrap_or(0).max(1);
         for (name, count) in NAMES.iter().zip(self.0) {
-            let length = count.saturating_mul(LONGEST).div_ceil(most) as usize;
+            let length = count.saturating_mul(BAR.len() as u64).div_ceil(most) as usize;
             writeln!(f, "{name}{} {count}", BAR.get(..length).unwrap_or(BAR))?;
         }
         Ok(())

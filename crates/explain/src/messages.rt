@@ -1,4 +1,5 @@
-// What the program says on standard error, and how to use it.
+// What the program says on standard error, in parts (docs/DECISIONS.md), and how to use it.
+use crate::words::Counted;
 use meanings::Meaning;
 use std::io::Stderr;
 
@@ -37,11 +38,7 @@ pub fn print_refused(stderr: Stderr, number: u32, offset: usize) {
 }
 
 pub fn print_not_there(stderr: Stderr, committed: u64) {
-    let characters = if committed == 1 {
-        "character"
-    } else {
-        "characters"
-    };
+    let characters = Counted(committed, " character", " characters");
     let _ = print!(stderr; "explain: the log commits {committed}");
-    let _ = println!(stderr; " {characters} and no more");
+    let _ = println!(stderr; "{} and no more", characters.name());
 }

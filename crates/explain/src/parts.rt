@@ -1,5 +1,6 @@
 // Standard output in parts, each in a write of its own. A part that is not taken is passed over, and those behind it are tried all the
-// same: where there is little room and writing doesn't wait, what still fits comes. (`tests/c/parts.c`)
+// same: where there is little room and writing doesn't wait, what still fits comes. So the cut is part of what the program does
+// (docs/DECISIONS.md, "Why do the programs write so many small parts?"); `tests/in_parts` holds it.
 use std::fmt;
 use std::fmt::Formatter;
 use std::io::Stdout;

@@ -57,7 +57,11 @@ impl Report for Table {
         let sentence = Sentence::new(lent, *step);
         let columns = Columns {
             step: *step,
-            late: sentence.numbers.late,
+            late: if sentence.numbers.late {
+                words(step.items)
+            } else {
+                [None; 2]
+            },
             due: step.deadline(lent),
             screen: Screen {
                 tail: self.tail,
@@ -94,7 +98,8 @@ impl Report for Table {
 #[derive(Clone, Copy)]
 struct Columns {
     step: Step,
-    late: bool,
+    // the words of what was late
+    late: [Option<u16>; 2],
     // the deadline of what rests behind it
     due: Option<Stamp>,
     screen: Screen,
@@ -104,10 +109,8 @@ impl fmt::Display for Columns {
     fn fmt<W: fmt::Write>(&self, f: &mut Formatter<W>) -> fmt::Result {
         write!(f, "{}", Front(self.step.event))?;
         let mut late = Field::new(f);
-        if self.late {
-            for word in words(self.step.items).into_iter().flatten() {
-                late.word(word)?;
-            }
+        for word in self.late.into_iter().flatten() {
+            late.word(word)?;
         }
         late.pad(LATE_WIDTH)?;
         write!(f, "S{:<5}", number_of(self.step.after.resting))?;

@@ -88,11 +88,16 @@ impl fmt::Display for Word {
 #[derive(Clone, Copy)]
 pub struct Counted(pub u64, pub &'static str, pub &'static str);
 
+impl Counted {
+    pub fn name(self) -> &'static str {
+        let Counted(count, one, more) = self;
+        if count == 1 { one } else { more }
+    }
+}
+
 impl fmt::Display for Counted {
     fn fmt<W: fmt::Write>(&self, f: &mut Formatter<W>) -> fmt::Result {
-        let Counted(count, one, more) = *self;
-        let name = if count == 1 { one } else { more };
-        write!(f, "{count}{name}")
+        write!(f, "{}{}", self.0, self.name())
     }
 }
 

@@ -158,7 +158,7 @@ fn words(text: &str) -> &str {
         .map_or(text, |(front, _)| front)
 }
 
-// Ends a message that says what failed: a colon and the system's words.
+// Ends a message that says what failed: a colon and the system's words, in parts (docs/DECISIONS.md).
 fn print_error(err: Stderr, error: Error) {
     let mut buf = [0; 320];
     let n = put(&mut buf, error);
@@ -193,7 +193,7 @@ pub fn read_arguments<E: Env>(rt: &E) -> Result<Option<usize>, Usage> {
 #[derive(Clone, Copy)]
 pub struct Program {
     pub name: &'static str,
-    // how to use it, in the parts that are written
+    // how to use it, in the parts that are written (docs/DECISIONS.md)
     pub usage: &'static [&'static str],
 }
 

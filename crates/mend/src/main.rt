@@ -45,7 +45,7 @@ fn print_longer(rt: &impl Eprint, start: &[u8])
     );
 }
 
-// Mends a log into a run that has room for all that is copied: it is no more than the log.
+// Mends a log into a run that has room for all that is copied: it is no more than the log. A message comes in parts (docs/DECISIONS.md).
 fn mend_log(rt: &(impl Print + Eprint), log: &[u8], out: &mut [u8]) -> Result<(), Failure>
     requires { length log.now ≤ length out.old }
 {

@@ -53,7 +53,7 @@ fn print_longer(rt: &impl Eprint, start: &[u8])
     );
 }
 
-// What a log's number means, on standard error. Nothing for 0.
+// What a log's number means, on standard error, in parts (docs/DECISIONS.md). Nothing for 0.
 fn explain(rt: &impl Eprint, number: u32, offset: usize) {
     if number != 0 {
         let _ = eprint!(rt; "notate: record at byte {offset}: ");

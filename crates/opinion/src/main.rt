@@ -47,7 +47,8 @@ fn print_longer(rt: &(impl Print + Eprint), start: &[u8]) -> Result<(), Failure>
     Ok(())
 }
 
-// What a log's number means, on standard error. Nothing for 0. There is room for all words, so 8 does not come.
+// What a log's number means, on standard error, in parts (docs/DECISIONS.md). Nothing for 0. There is room for all words, so 8 does not
+// come.
 fn explain(rt: &impl Eprint, number: u32, offset: usize) {
     if number != 0 {
         let _ = eprint!(rt; "opinion: record at byte {offset}: ");

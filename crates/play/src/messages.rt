@@ -1,4 +1,4 @@
-// What the program says besides the text.
+// What the program says besides the text, in parts (docs/DECISIONS.md).
 ghost use Rattle.std.specs.Prelude.{◌≢◌};
 
 use meanings::Meaning;

@@ -1,4 +1,4 @@
-// What the program says on standard error.
+// What the program says on standard error, in parts (docs/DECISIONS.md).
 ghost use Rattle.std.specs.Prelude.{◌≤◌, length};
 ghost use Rattle.transcribe.specs.Answers.{text_room, log_room};
 

@@ -7,7 +7,8 @@ mod parts;
 mod printed;
 
 use pairs::{Lent, Times};
-use parts::{say, spell};
+use parts::Cut::{Bytes, Words};
+use parts::say;
 use printed::{Given, say_asked, say_given};
 use rules::{Event, Key, Machine, Resting, Settings, Stamp};
 use std::io::Stdout;
@@ -48,8 +49,8 @@ const fn event(kind: u8, key: u8, stamp: u64) -> Event {
 
 // How far a machine's deadline lies from a stamp, on a line.
 fn ask(stdout: Stdout, given: Lent<'_>, machine: Machine, stamp: Stamp) {
-    spell(stdout, format_args!("  asked @{}", stamp.0));
-    say(stdout, ": ");
+    say(stdout, Bytes, format_args!("  asked @{}", stamp.0));
+    say(stdout, Words, ": ");
     say_asked(stdout, engine::distance(given, machine, stamp));
 }
 
@@ -61,9 +62,9 @@ fn step(stdout: Stdout, given: Lent<'_>, machine: Machine, event: Event) -> Mach
         event,
         answer: answer.map(|done| (done.items, done.sendings)),
     };
-    say(stdout, " ");
+    say(stdout, Words, " ");
     say_given(stdout, told);
-    say(stdout, ", next ");
+    say(stdout, Words, ", next ");
     say_asked(stdout, engine::distance(given, after, event.stamp));
     after
 }
@@ -80,11 +81,19 @@ fn stand_in(settings: Settings) -> Machine {
 
 fn open(stdout: Stdout, settings: Settings) -> Machine {
     let Settings { t, j, l, solo } = settings;
-    spell(stdout, format_args!("T {t}, J {j}, L {l}, solo {solo}"));
+    say(
+        stdout,
+        Bytes,
+        format_args!("T {t}, J {j}, L {l}, solo {solo}"),
+    );
     match Machine::open(settings) {
         Ok(machine) => {
             let longest = engine::longest_wait(settings).0;
-            spell(stdout, format_args!(": opened, longest wait {longest}\n"));
+            say(
+                stdout,
+                Bytes,
+                format_args!(": opened, longest wait {longest}\n"),
+            );
             machine
         }
         Err(refusal) => {
@@ -315,15 +324,16 @@ fn play_at(stdout: Stdout, machine: Machine) {
             event,
             answer: among.told.map(|told| (told.items, told.sendings)),
         };
-        spell(stdout, format_args!("  keyboard {board},"));
+        say(stdout, Bytes, format_args!("  keyboard {board},"));
         say_given(stdout, told);
-        say(stdout, "\n");
+        say(stdout, Words, "\n");
     }
 }
 
 fn run(stdout: Stdout) {
     say(
         stdout,
+        Words,
         "Kinds: 1 character down, 2 up, 3 thumb down, 4 up, 5 function, 6 tick. Thumbs: 0 left, 1 right.\n",
     );
     let settings = Settings {

@@ -1,43 +1,45 @@
 // Standard output in parts, each in a write of its own. A part that is not taken is passed over, and those behind it are tried all the
-// same: where there is little room and writing doesn't wait, what still fits comes. (`tests/c/parts.c`)
+// same: where there is little room and writing doesn't wait, what still fits comes. So the cut is part of what the program does
+// (docs/DECISIONS.md, "Why do the programs write so many small parts?"); `tests/in_parts` holds it.
 use std::fmt;
 use std::fmt::Formatter;
 use std::io::Stdout;
 
+// How a text is cut.
+#[derive(Clone, Copy)]
+pub enum Cut {
+    // As it is put together: its words and its numbers are the parts.
+    Words,
+    // Byte by byte, its numbers whole.
+    Bytes,
+}
+
 #[derive(Drop)]
 struct Parts {
     out: Stdout,
-    spelled: bool,
+    cut: Cut,
+}
+
+impl Parts {
+    fn put(&mut self, part: &[u8]) {
+        let _ = self.out.write_all(part);
+    }
 }
 
 impl fmt::Write for Parts {
-    fn write_str(&mut self, part: &str) -> fmt::Result {
-        let bytes = part.as_bytes();
-        if self.spelled && !matches!(bytes, [b'0'..=b'9', ..]) {
-            for byte in bytes {
-                self.put(&[*byte]);
+    fn write_str(&mut self, text: &str) -> fmt::Result {
+        match (self.cut, text.as_bytes()) {
+            (Cut::Words, part) | (Cut::Bytes, part @ [b'0'..=b'9', ..]) => self.put(part),
+            (Cut::Bytes, bytes) => {
+                for byte in bytes {
+                    self.put(&[*byte]);
+                }
             }
-        } else {
-            self.put(bytes);
         }
         Ok(())
     }
 }
 
-impl Parts {
-    fn put(&mut self, bytes: &[u8]) {
-        let _ = self.out.write_all(bytes);
-    }
-}
-
-// A text as it is put together: its words and its numbers are the parts.
-pub fn say<T: fmt::Display + Drop>(out: Stdout, text: T) {
-    let spelled = false;
-    let _ = Formatter::new(Parts { out, spelled }).write(text);
-}
-
-// A text byte by byte, its numbers whole.
-pub fn spell<T: fmt::Display + Drop>(out: Stdout, text: T) {
-    let spelled = true;
-    let _ = Formatter::new(Parts { out, spelled }).write(text);
+pub fn say<T: fmt::Display + Drop>(out: Stdout, cut: Cut, text: T) {
+    let _ = Formatter::new(Parts { out, cut }).write(text);
 }

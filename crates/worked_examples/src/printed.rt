@@ -1,5 +1,6 @@
 // How the answers are printed.
-use crate::parts::{say, spell};
+use crate::parts::Cut::{Bytes, Words};
+use crate::parts::say;
 use engine::{Items, Sendings};
 use rules::{Event, Refusal};
 use std::fmt;
@@ -72,18 +73,20 @@ pub fn say_given(stdout: Stdout, given: Given) {
     let Event { kind, key, stamp } = given.event;
     let number = given.answer.map_or_else(|refusal| refusal.number(), |_| 0);
     let (key, stamp) = (key.0, stamp.0);
-    spell(
+    say(
         stdout,
+        Bytes,
         format_args!(" kind {kind} key {key} @{stamp}: {number}, commits"),
     );
     match given.answer {
         Ok((items, sent)) => say(
             stdout,
+            Words,
             format_args!("{}, sends{}", Commits(items), Sends(sent)),
         ),
         Err(_) => {
             for part in [" nothing", ", sends", " nothing"] {
-                say(stdout, part);
+                say(stdout, Words, part);
             }
         }
     }
@@ -92,10 +95,10 @@ pub fn say_given(stdout: Stdout, given: Given) {
 // How far a deadline lies, with its sign, or why that is refused, at the end of a line.
 pub fn say_asked(stdout: Stdout, asked: Result<Option<i64>, Refusal>) {
     match asked {
-        Ok(None) => say(stdout, "none"),
-        Ok(Some(0)) => say(stdout, "0"),
-        Ok(Some(milliseconds)) => say(stdout, format_args!("{milliseconds:+}")),
-        Err(refusal) => spell(stdout, format_args!("refused {}", refusal.number())),
+        Ok(None) => say(stdout, Words, "none"),
+        Ok(Some(0)) => say(stdout, Words, "0"),
+        Ok(Some(milliseconds)) => say(stdout, Words, format_args!("{milliseconds:+}")),
+        Err(refusal) => say(stdout, Bytes, format_args!("refused {}", refusal.number())),
     }
-    say(stdout, "\n");
+    say(stdout, Words, "\n");
 }
